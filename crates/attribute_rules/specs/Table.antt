@@ -6,11 +6,11 @@ use Rattle.std.specs.Option.{option_or, option_map_or}
 use Rattle.m2m_names.specs.declared.attributes.Attr.{Attr}
 use Rattle.m2m_names.specs.declared.attributes.Attr.TheVariants.{Aa, Acpi, Aei, Api, Apn, At, Cb}
 use Rattle.m2m_names.specs.declared.attributes.Attr.TheVariants.{Cbs, Cnf, Cni, Cnm, Con, Cr, Cs}
-use Rattle.m2m_names.specs.declared.attributes.Attr.TheVariants.{Csi, Cst, Csy, Ct, Enc, Et, Exc, Gn}
-use Rattle.m2m_names.specs.declared.attributes.Attr.TheVariants.{Lbl, Lnk, Lt, Macp, Mbs, Mia, Mid}
-use Rattle.m2m_names.specs.declared.attributes.Attr.TheVariants.{Mni, Mnm, Mt, Mtv, Nct, Nu, Pi}
-use Rattle.m2m_names.specs.declared.attributes.Attr.TheVariants.{Poa, Pv, Pvs, Ri, Rn, Rr, Srt, Srv}
-use Rattle.m2m_names.specs.declared.attributes.Attr.TheVariants.{St, Su, Ty as OfType}
+use Rattle.m2m_names.specs.declared.attributes.Attr.TheVariants.{Csi, Cst, Csy, Ct, Enc, Et, Exc}
+use Rattle.m2m_names.specs.declared.attributes.Attr.TheVariants.{Gn, Lbl, Lnk, Lt, Macp, Mbs}
+use Rattle.m2m_names.specs.declared.attributes.Attr.TheVariants.{Mia, Mid, Mni, Mnm, Mt, Mtv, Nct}
+use Rattle.m2m_names.specs.declared.attributes.Attr.TheVariants.{Nu, Pi, Poa, Pv, Pvs, Ri, Rn}
+use Rattle.m2m_names.specs.declared.attributes.Attr.TheVariants.{Rr, Srt, Srv, St, Su, Ty as OfType}
 use Rattle.m2m_names.specs.declared.types.Ty.{Ty}
 use Rattle.m2m_names.specs.declared.types.Ty.TheVariants.{AccessControlPolicy, Ae, Container}
 use Rattle.m2m_names.specs.declared.types.Ty.TheVariants.{ContentInstance, CseBase, Group}

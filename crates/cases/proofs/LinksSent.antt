@@ -3,9 +3,10 @@ use denote.RattleType.{RattleType}
 use denote.Param.Send.{IsSend, sendable}
 use denote.Param.SendFields.{declared_send, variants_send}
 use Rattle.std.proofs.Crossing.{crosses}
+use Rattle.m2m_io.specs.contracts.calls.Calls as calls
 use Rattle.m2m_io.specs.contracts.clock.MemClock as clock
+use Rattle.m2m_io.specs.contracts.exchanges.Exchanges as told
 use Rattle.m2m_io.specs.contracts.link.MemLink as answers
-use Rattle.m2m_io.specs.contracts.source.MemSource as source
 use Rattle.tree_model.specs.declared.tree.Tree as a_tree
 use Rattle.resource_tree.specs.contracts.index_tree.IndexTree as index_tree
 use Rattle.resource_tree.specs.contracts.index_tree.IndexTreeTree.TheImpl as index_tree_impl
@@ -13,7 +14,6 @@ use Rattle.cse_server.specs.contracts.served.Served as served
 use Rattle.turn_desk.specs.contracts.own.OwnSeat as seat
 use Rattle.turn_desk.specs.contracts.own.OwnSeat.TheInside as seat_inside
 use Rattle.peer_link.specs.contracts.link.PeerLink as peer
-use Rattle.peer_link.specs.contracts.exchanges.PastExchange as told
 use Rattle.cases.specs.contracts.link.CaseLink as link
 use Rattle.cases.specs.contracts.link.Neighbour as neighbour
 use Rattle.cse_cli.proofs.EntitiesSent.{served_tree_send}
@@ -26,8 +26,8 @@ module _ (O : RattleType) (o : IsSend O) where
   seat_send : IsSend (seat.the_row O)
   seat_send = record { owned = λ d vs x. (seat_inside_send.owned x.0 vs, tt); leaving = λ k d w. tt }
 
-source_send : IsSend source.the_row
-source_send = search (sendable, crosses) depth 60 fits 5000
+calls_send : IsSend calls.the_row
+calls_send = search (sendable, crosses) depth 60 fits 5000
 
 told_send : IsSend told.the_row
 told_send = search (sendable, crosses) depth 60 fits 5000
@@ -37,7 +37,7 @@ module _ (T C : RattleType) (g : a_tree.Ghosts T.Denot) (s : IsSend (served.the_
   peer_send : IsSend (peer.the_row T C g)
   peer_send = declared_send (peer.the_type T C g) (
     search (sendable, crosses, seat_send) depth 20,
-    (search (sendable, crosses) depth 20, (search (sendable, crosses, source_send) depth 20, (search (sendable, crosses, told_send) depth 20, tt))),
+    (search (sendable, crosses) depth 20, (search (sendable, crosses, calls_send) depth 20, (search (sendable, crosses, told_send) depth 20, tt))),
   )
 
 clock_send : IsSend clock.the_row
@@ -53,4 +53,4 @@ neighbour_send : IsSend neighbour.the_row
 neighbour_send = variants_send neighbour.enum ((answers_send, tt), ((cse_send, tt), tt))
 
 pub link_send : IsSend link.the_row
-link_send = declared_send link.the_type (neighbour_send, (search (sendable, crosses) depth 20, (search (sendable, crosses) depth 20, tt)))
+link_send = declared_send link.the_type (neighbour_send, (search (sendable, crosses) depth 20, tt))

@@ -1,5 +1,8 @@
 //! The link of a case.
-ghost use Rattle.std.specs.Prelude.{◌≡◌, ◌++◌, ℕ, List, None, OnErr, OnOk};
+ghost use Rattle.std.specs.Prelude.{◌≡◌, ◌++◌, ℕ, List, OnErr, OnOk};
+ghost use Rattle.m2m_io.specs.declared.fault.LinkFault.TheVariants.{Failed as failed};
+ghost use Rattle.m2m_io.specs.Counts.{CountsFault};
+ghost use Rattle.cases.specs.Neighbours.{faults_of};
 
 use crate::came::push_exchange;
 use m2m_io::{Link, LinkFault, MemClock, MemLink};
@@ -27,6 +30,7 @@ impl Neighbour {
         ensures ok { OnOk result ((answer : List ℕ)
             × (reply.new.items ≡ reply.old.items ++ answer)) }
         ensures err { OnErr result (reply.new.items ≡ reply.old.items) }
+        ensures faults { CountsFault failed result (faults_of self.old) (faults_of self.new) }
     {
         match self {
             Neighbour::Answers(link) => link.exchange(alloc, host, request, reply),
@@ -40,7 +44,6 @@ impl Neighbour {
 pub struct CaseLink {
     to: Neighbour,
     asked: Vec<u8>,
-    faults: u64,
 }
 
 impl CaseLink {
@@ -49,7 +52,6 @@ impl CaseLink {
         CaseLink {
             to,
             asked: Vec::new(alloc),
-            faults: 0,
         }
     }
 
@@ -60,9 +62,12 @@ impl CaseLink {
 }
 
 impl Link for CaseLink {
+    ghost use Rattle.std.specs.Prelude.{None};
+    ghost use Rattle.cases.specs.Neighbours.{faults_of};
+
     ghost exchanges = { λ _. None };
 
-    ghost faults = { λ l. l.faults };
+    ghost faults = { λ l. faults_of l.to };
 
     fn exchange(
         &mut self,
@@ -72,10 +77,6 @@ impl Link for CaseLink {
         reply: &mut Vec<u8>,
     ) -> Result<(), LinkFault> {
         push_exchange(alloc, &mut self.asked, host, request)?;
-        let answered = self.to.exchange(alloc, host, request, reply);
-        if let Err(LinkFault::Failed) = answered {
-            self.faults = self.faults.saturating_add(1);
-        }
-        answered
+        self.to.exchange(alloc, host, request, reply)
     }
 }

@@ -29,9 +29,9 @@
 //! - `fail in N ..`: the reads of these numbers fail, from 1; and so do the calls of `out`, `err`,
 //!   `link` and `door`.
 //! - `answer`: an answer of the link of `first`, a block. Answers are given in order.
-//! - `peer SP CSE-ID BASE TYPE ADMIN`: in place of answers, the link of `first` leads to another CSE
-//!   in memory, of this service provider, CSE-ID, base, CSE type and administrator. It opens at the
-//!   first reading of a clock of its own, which tells what that of the case does.
+//! - `peer SP CSE-ID BASE TYPE ADMIN`: in place of answers, the link of `first` leads to another
+//!   CSE in memory, of this service provider, CSE-ID, base, CSE type and administrator. It opens at
+//!   the first reading of a clock of its own, which tells what that of the case does.
 //! - `conn`, `conn N`: a connection of the door, or so many alike. The lines `in`, `cut N ..`,
 //!   `cut N*`, `fail in`, `fail out` and `out` behind it are its own.
 //!

@@ -1,5 +1,5 @@
 -- The lemmas that several proofs of this crate use.
-pub use Rattle.create_delete.proofs.ChangesLemmas.{c_left, created_are, deleted_are, fresh, gone_are, none_false, nothing_apart, only_last, updated_are}
+pub use Rattle.create_delete.proofs.ChangesLemmas.{c_left, created_are, deleted_are, fresh, gone_are, nothing_apart, only_last, updated_are}
 pub use Rattle.create_delete.proofs.CreatableLemmas.{allowed, names_attributes, names_type}
 pub use Rattle.create_delete.proofs.DeletionLemmas.{delete_done, deletion_keeps, deletion_takes}
 pub use Rattle.create_delete.proofs.EffectLemmas.{done_at, refused_at, told_after, told_refused_at, told_reply}

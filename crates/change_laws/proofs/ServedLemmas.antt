@@ -1,7 +1,7 @@
 -- What a Create and an Update change where they are served.
 use Rattle.change_laws.proofs.Words.{◌≡◌, ℕ, ◌+◌, List, [], length, true, false, Option, Some, None, inl, inr, refl, sym, ap, ◌∙◌, subst, arith, option_map_or}
 use Rattle.change_laws.proofs.Terms.{Rsc, BadChild, Op, Create, Retrieve, Update, Delete, Notify, Ty, ContentInstance, Entry, RequestParts, ResourceData, is_ty, at, has, is_instance, is_tree, restamped, EntityData, Effect, refused, IsSoundEntity, Creation, new_resource, new_size, next_state, creation_by, fault_at, fault_on, child_ty, changes_at, creation_changes, named_attrs, only_in, update_changes, after_joining, create_effect, container_update_of, nodes_updated, effect_at, pushed_by, pushed_out, updated_by, updated_resource, with_new_resource, gone_by, IsAllowed, MayJoinContainer, MayJoin}
-use Rattle.change_laws.proofs.Facts.{cases_Bool, cases_eq, both_ways, at_has, at_number, at-replaced_other, found_at, nothing_on, c_left, created_are, fresh, gone_are, none_false, nothing_apart, only_last, updated_are, names_type, deletion_keeps, delete_done, done_at, refused_at}
+use Rattle.change_laws.proofs.Facts.{cases_Bool, cases_eq, both_ways, at_has, at_number, at-replaced_other, found_at, nothing_on, c_left, created_are, fresh, gone_are, nothing_apart, only_last, updated_are, names_type, deletion_keeps, delete_done, done_at, refused_at}
 use Rattle.std.proofs.lemmas.Option.{same_Some}
 use Rattle.m2m_names.specs.Name.{is_originator}
 use Rattle.m2m_names.specs.StatusCodes.{is_success}
@@ -10,7 +10,7 @@ use Rattle.request_rules.proofs.RefusalLemmas.{refuses_at}
 use Rattle.create_delete.specs.Guard.{IsChanged, IsGone}
 use Rattle.create_delete.specs.NewResource.{IsNewInstance, IsNewResource, IsReplacement}
 use Rattle.change_laws.specs.Served.{AddsOne, ChangesOne, ServesCreate, ServesDelete, ServesUpdate}
-use Rattle.create_delete.proofs.GrownLemmas.{nothing_picked}
+use Rattle.create_delete.proofs.GrownLemmas.{picked_never}
 use Rattle.create_delete.proofs.JoiningLemmas.{filled_is}
 use Rattle.create_delete.proofs.ReplacementLemmas.{replacement}
 use Rattle.create_delete.proofs.RightCreateLemmas.{after_is, changed_is, create, itself, joins, made_sound, named, nodes_filled, older_there, removed, IsCreate}
@@ -154,7 +154,7 @@ module _ (e : EntityData) (sound : IsSoundEntity e) (old now : ResourceData) (ne
     stood = stood;
     stands = c_left e sound now new;
     same = same;
-    none = gone_are (λ r. false) left e.nodes left_tree each_known ∙ nothing_picked (λ r. false) left (none_false left);
+    none = gone_are (λ r. false) left e.nodes left_tree each_known ∙ picked_never left;
     changed = changed_alone;
     removed = gone_instance;
     rest = refl;
@@ -214,7 +214,7 @@ module _ (e : EntityData) (o : List ℕ) (request : RequestParts) (n : ℕ) (sou
       let tree : is_tree (left_by Delete).nodes ≡ true = tree_from_well_formed (left_by Delete).nodes (stays_sound Delete e o request n sound originator).tree in
       stays e (left_by Delete) (ap (λ (x : Effect). x.after.next) (delete_done e o request n none))
       (gone_are (λ r. false) (left_by Delete).nodes e.nodes tree (λ r found. at_has r.number e.nodes r (deletion_keeps e o request n r sound found))
-      ∙ nothing_picked (λ r. false) (left_by Delete).nodes (none_false (left_by Delete).nodes))
+      ∙ picked_never (left_by Delete).nodes)
   rises Notify none =
       let found = found_at Notify e o request n none in
       unchanged e (left_by Notify) (ap (λ (x : Effect). x.after) (done_at Notify e o request n found.0 found.1 none))

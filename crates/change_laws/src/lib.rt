@@ -9,6 +9,12 @@
 //! each member that it is asked to have once, and none of another type than its own. All this is
 //! said of what an operation does before anybody is told (`effect_at`); what is told comes behind,
 //! with the same reply.
+//!
+//! ```text
+//! what_may_be_done_is_served(); // each call has its law as its contract
+//! a_creation_adds_one_resource();
+//! an_update_changes_its_target_alone();
+//! ```
 #![tactic(auto)]
 
 mod changes;

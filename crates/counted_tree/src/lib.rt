@@ -5,7 +5,8 @@
 //!
 //! ```text
 //! let tree = CountedTree::of(IndexTree::new(alloc));
-//! tree.calls() // 0
+//! let found = child_named(&tree, 1, b"dev");
+//! tree.calls() // 1
 //! ```
 #![tactic(auto)]
 

@@ -1,17 +1,17 @@
 -- The changes that come of an operation are those that it prepares.
 use Rattle.std.specs.Prelude.{nat_eq}
-use Rattle.std.proofs.Common.{◌≡◌, ℕ, ◌+◌, List, [], ◌∷◌, ◌++◌, map, Bool, true, false, not, ◌&&◌, cond, Option, Some, None, inl, inr, refl, sym, ap, ◌∙◌, subst}
-use Rattle.std.proofs.lemmas.Bool.{cases_Bool, cases_eq, both_ways}
+use Rattle.std.proofs.Common.{◌≡◌, ℕ, ◌+◌, List, [], ◌∷◌, ◌++◌, map, Bool, true, false, not, ◌&&◌, cond, Option, Some, None, inl, inr, refl, sym, ap, ◌∙◌}
+use Rattle.std.proofs.lemmas.Bool.{cases_eq, both_ways}
 use Rattle.std.proofs.lemmas.List.Elements.{filter-append}
-use Rattle.std.specs.List.{filter, list_all, list_any}
+use Rattle.std.specs.List.{filter, list_any}
 use Rattle.std.specs.Option.{option_map_or}
 use Rattle.m2m_names.specs.declared.codes.Rsc.{Rsc}
 use Rattle.m2m_names.specs.declared.codes.Rsc.TheVariants.{NotFound}
 use Rattle.m2m_names.specs.declared.operations.Op.{Op}
 use Rattle.m2m_names.specs.declared.operations.Op.TheVariants.{Create, Update, Delete}
-use Rattle.m2m_names.specs.declared.types.Ty.TheVariants.{Container, ContentInstance}
+use Rattle.m2m_names.specs.declared.types.Ty.TheVariants.{ContentInstance}
 use Rattle.primitive_json.specs.declared.request.RequestParts.{RequestParts}
-use Rattle.resource_model.specs.Resource.{ResourceData, has_number, is_ty}
+use Rattle.resource_model.specs.Resource.{ResourceData, has_number}
 use Rattle.tree_model.specs.Tree.{at, has, instances_of, instance_size, is_at_or_below, is_spared, is_tree, line_of, numbers_of, replaced, restamped, without}
 use Rattle.tree_model.proofs.ChangeLemmas.{unpicked-replaced}
 use Rattle.tree_model.proofs.GrowthLemmas.{has-without, tree_from_well_formed}
@@ -23,17 +23,17 @@ use Rattle.entity_model.specs.Places.{Effect}
 use Rattle.entity_model.specs.Sound.{IsSoundEntity}
 use Rattle.request_rules.specs.Order.{fault_at, fault_on}
 use Rattle.create_delete.specs.Changes.{changes_at, changes_by, created, creation_changes, deleted, deletion_changes, named_attrs, only_in, update_changes, update_made, updated}
-use Rattle.create_delete.specs.Changing.{after_joining, is_numbered_in, nodes_updated, effect_at, pushed_by, pushed_out, with_new_resource, without_all}
+use Rattle.create_delete.specs.Changing.{after_joining, is_numbered_in, nodes_updated, effect_at, pushed_by, with_new_resource, without_all}
 use Rattle.create_delete.specs.Joining.{gone_by, MayJoin}
 use Rattle.create_delete.specs.NewResource.{IsNewInstance, IsNewResource, IsReplacement}
 use Rattle.create_delete.specs.Telling.{gone_numbers, numbers_below}
 use Rattle.create_delete.specs.declared.joining.ContainerUpdate.{ContainerUpdate}
-use Rattle.create_delete.proofs.GrownLemmas.{grown_by, nothing_picked}
+use Rattle.create_delete.proofs.GrownLemmas.{grown_by, picked_never}
 use Rattle.create_delete.proofs.InstanceLemmas.{limits_restamped, pruning as filling_pruning}
 use Rattle.create_delete.proofs.JoiningLemmas.{filled_is, pushes_named}
 use Rattle.create_delete.proofs.LeftLemmas.{all_but_out, filter_found, has_left}
 use Rattle.create_delete.proofs.EffectLemmas.{done_at}
-use Rattle.create_delete.proofs.PushingLemmas.{nothing_removed}
+use Rattle.create_delete.proofs.PushingLemmas.{by_pushing, nothing_removed}
 use Rattle.create_delete.proofs.ReplacedLemmas.{replaced_by}
 use Rattle.create_delete.proofs.RightCreateLemmas.{container_there, lacks, nodes_filled, not_out, older_there, same_filled, stamped_there}
 use Rattle.create_delete.proofs.RightUpdateLemmas.{now_there, turned_tree, updated_in, updated_left}
@@ -50,12 +50,8 @@ numbered_alike out x r same = ap (λ (m : ℕ). list_any (nat_eq m) out) same
 pub gone_are : (picks : ResourceData → Bool) (nodes left : List ResourceData) → is_tree nodes ≡ true → ((r : ResourceData) → at r.number nodes ≡ Some r → has r.number left ≡ not (picks r)) → only_in nodes left ≡ filter picks nodes
 gone_are picks nodes left tree each = filter_found (λ r. not (has r.number left)) picks nodes tree (λ r found. ap not (each r found) ∙ not_not (picks r))
 
-pub none_false : (nodes : List ResourceData) → list_all (λ (s : ResourceData). not false) nodes ≡ true
-none_false [] = refl
-none_false (s ∷ nodes) = none_false nodes
-
 pub nothing_apart : (nodes : List ResourceData) → only_in nodes nodes ≡ []
-nothing_apart nodes = filter_among (λ s. not (has s.number nodes)) (λ s. false) nodes (λ s there. ap not there) ∙ nothing_picked (λ s. false) nodes (none_false nodes)
+nothing_apart nodes = filter_among (λ s. not (has s.number nodes)) (λ s. false) nodes (λ s there. ap not there) ∙ picked_never nodes
 
 -- ---- a Delete
 
@@ -78,16 +74,10 @@ module _ (e : EntityData) (sound : IsSoundEntity e) (c : ResourceData) (new : Is
   turned = replaced c e.nodes
 
   turned_left : (s : ResourceData) → at s.number turned ≡ Some s → has s.number (nodes_updated e c) ≡ not (is_numbered_in (pushed_by e c) s)
-  turned_left s found = elim (cases_Bool (is_ty c.ty Container)) [
-    | inl t ↦
-        let pushes : pushed_out e c None ≡ pushed_by e c = rw t refl in
-        subst (λ (gone : List ℕ). has s.number (without_all gone turned) ≡ not (is_numbered_in gone s)) pushes
-        (has_left c.number (replaced_by e c) c None (instances_of c.number e.nodes) [] (pruning e c sound new) s found)
-    | inr f ↦
-        let none : pushed_by e c ≡ [] = rw f refl in
-        subst (λ (gone : List ℕ). has s.number (without_all gone turned) ≡ not (is_numbered_in gone s)) (sym none)
-        (ap (has s.number) (nothing_removed turned (turned_tree e sound c new)) ∙ at_has s.number turned s found)
-  ]
+  turned_left s found =
+      by_pushing (λ (gone : List ℕ). has s.number (without_all gone turned) ≡ not (is_numbered_in gone s)) e c
+      (λ t. has_left c.number (replaced_by e c) c None (instances_of c.number e.nodes) [] (pruning e c sound new) s found)
+      (λ f. ap (has s.number) (nothing_removed turned (turned_tree e sound c new)) ∙ at_has s.number turned s found)
 
   each_left : (r : ResourceData) → at r.number e.nodes ≡ Some r → has r.number (nodes_updated e c) ≡ not (is_numbered_in (pushed_by e c) r)
   each_left r found = elim (cases_eq r.number c.number) [
@@ -132,7 +122,7 @@ only_last e r sound new =
 none_gone : (e : EntityData) (r : ResourceData) → IsSoundEntity e → IsNewResource e r → only_in e.nodes (e.nodes ++ r ∷ []) ≡ []
 none_gone e r sound new =
     gone_are (λ s. false) e.nodes (e.nodes ++ r ∷ []) (tree_from_well_formed e.nodes sound.tree) (λ s found. at_has s.number (e.nodes ++ r ∷ []) s (older_there e sound r new s.number s found))
-    ∙ nothing_picked (λ s. false) e.nodes (none_false e.nodes)
+    ∙ picked_never e.nodes
 
 join_changes : (e : EntityData) (r : ResourceData) (request : RequestParts) (n : ℕ) → IsSoundEntity e → IsNewResource e r → changes_by Create request n e (with_new_resource e r) ≡ created r ∷ []
 join_changes e r request n sound new =

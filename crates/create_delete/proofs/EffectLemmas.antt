@@ -1,8 +1,8 @@
 -- What comes of a request, by the order of refusals.
-use Rattle.std.proofs.Common.{◌≡◌, ℕ, List, false, Option, Some, None, refl, sym, ap, ◌∙◌}
+use Rattle.std.proofs.Common.{◌≡◌, ℕ, List, Option, Some, None, sym, ap, ◌∙◌}
 use Rattle.std.specs.Option.{option_map_or}
 use Rattle.m2m_names.specs.declared.codes.Rsc.{Rsc}
-use Rattle.m2m_names.specs.declared.codes.Rsc.TheVariants.{NoPrivilege, NotFound}
+use Rattle.m2m_names.specs.declared.codes.Rsc.TheVariants.{NotFound}
 use Rattle.m2m_names.specs.declared.operations.Op.{Op}
 use Rattle.primitive_json.specs.declared.request.RequestParts.{RequestParts}
 use Rattle.resource_model.specs.Resource.{ResourceData}
@@ -11,7 +11,6 @@ use Rattle.tree_model.proofs.TreeLemmas.{at_number}
 use Rattle.entity_model.specs.Entity.{EntityData, telling}
 use Rattle.entity_model.specs.Places.{Effect, refused}
 use Rattle.request_rules.specs.Order.{fault_on, fault_at}
-use Rattle.request_rules.specs.Rights.{may_do}
 use Rattle.request_rules.proofs.OrderLemmas.{nothing_on}
 use Rattle.create_delete.specs.Changes.{changes_by}
 use Rattle.create_delete.specs.Changing.{effect_by, effect_on, effect_at}
@@ -30,13 +29,6 @@ pub done_at : (op : Op) (e : EntityData) (o : List ℕ) (request : RequestParts)
 done_at op e o request n t there none =
     ap (λ (x : Option ResourceData). option_map_or (effect_on op e o request) x (refused e request NotFound)) there
     ∙ ap (λ (x : Option Rsc). option_map_or (refused e request) x (effect_by op e o request t)) (nothing_on op e o request n t there none)
-
--- without the right it is refused for that
-pub no_right : (op : Op) (e : EntityData) (o : List ℕ) (request : RequestParts) (n : ℕ) (t : ResourceData) → at n e.nodes ≡ Some t → may_do op e o request n ≡ false → effect_at op e o request n ≡ refused e request NoPrivilege
-no_right op e o request n t there none =
-    let same : may_do op e o request t.number ≡ false = ap (λ (m : ℕ). may_do op e o request m) (at_number n e.nodes t there) ∙ none in
-    let fault : fault_on op e o request t ≡ Some NoPrivilege = rw same refl in
-    refused_at op e o request n NoPrivilege (ap (λ (x : Option ResourceData). option_map_or (fault_on op e o request) x (Some NotFound)) there ∙ fault)
 
 -- ---- and told
 

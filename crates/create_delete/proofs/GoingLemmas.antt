@@ -57,10 +57,6 @@ pub record FoundSoFar (n : ℕ) (nodes rest : List ResourceData) (numbers : List
 pub found_none : (n : ℕ) (nodes : List ResourceData) → FoundSoFar n nodes nodes []
 found_none n nodes = record { front = []; split = refl; are = refl }
 
-pub found_all : (n : ℕ) (nodes : List ResourceData) (numbers : List ℕ) → FoundSoFar n nodes [] numbers → numbers ≡ numbers_below n nodes
-found_all n nodes numbers found =
-    found.are ∙ ap (λ (rs : List ResourceData). numbers_of (filter (is_at_or_below n nodes) rs)) (sym (found.split ∙ append-nil found.front))
-
 front_all : (P : ℕ → Type 0) (xs ys : List ℕ) → AllByRecursion P (xs ++ ys) → AllByRecursion P xs
 front_all P [] ys all = tt
 front_all P (x ∷ xs) ys all = (all.0, front_all P xs ys all.1)

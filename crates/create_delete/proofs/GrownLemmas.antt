@@ -119,6 +119,11 @@ nothing_picked p (s ∷ nodes) none =
     let parts = and_parts (not (p s)) _ none in
     rw (not-true _ parts.0) (nothing_picked p nodes parts.1)
 
+-- what nothing passes picks nothing
+pub picked_never : (nodes : List ResourceData) → filter (λ (s : ResourceData). false) nodes ≡ []
+picked_never [] = refl
+picked_never (s ∷ nodes) = picked_never nodes
+
 -- under the new one there is nothing
 childless : (p : ResourceData → Bool) (nodes : List ResourceData) (r : ResourceData) → is_tree nodes ≡ true → IsNext nodes r → ((s : ResourceData) → is_under r.number s ≡ false → p s ≡ false) → filter p (nodes ++ r ∷ []) ≡ []
 childless p nodes r tree next only = nothing_picked p (nodes ++ r ∷ []) (all_grown _ nodes r

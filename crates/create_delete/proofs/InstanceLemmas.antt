@@ -8,7 +8,7 @@ use Rattle.m2m_names.specs.Types.{does_take}
 use Rattle.m2m_names.specs.declared.attributes.Attr.{Attr}
 use Rattle.m2m_names.specs.declared.attributes.Attr.TheVariants.{Acpi, Macp, Mbs, Mia, Mni, St}
 use Rattle.m2m_names.specs.declared.types.Ty.{Ty}
-use Rattle.m2m_names.specs.declared.types.Ty.TheVariants.{AccessControlPolicy, Ae, Container, ContentInstance, CseBase, Group, PollingChannel, RemoteCse, Subscription, AccessControlPolicyAnnc, AeAnnc, ContainerAnnc, ContentInstanceAnnc, GroupAnnc}
+use Rattle.m2m_names.specs.declared.types.Ty.TheVariants.{Container, ContentInstance, CseBase}
 use Rattle.m2m_names.proofs.TypeLemmas.{same_type}
 use Rattle.m2m_value.specs.Data.{Data, number}
 use Rattle.resource_model.specs.Attributes.{is_attr, value_of, count_at}
@@ -42,19 +42,7 @@ use Rattle.request_rules.proofs.RoomLemmas.{takes_parts}
 -- a container alone takes an instance
 pub takes_is_container : (t : Ty) → does_take t ContentInstance ≡ true → is_ty t Container ≡ true
 takes_is_container Container taken = refl
-takes_is_container AccessControlPolicy taken = absurd (both_ways _ refl taken)
-takes_is_container Ae taken = absurd (both_ways _ refl taken)
-takes_is_container ContentInstance taken = absurd (both_ways _ refl taken)
-takes_is_container CseBase taken = absurd (both_ways _ refl taken)
-takes_is_container Group taken = absurd (both_ways _ refl taken)
-takes_is_container PollingChannel taken = absurd (both_ways _ refl taken)
-takes_is_container RemoteCse taken = absurd (both_ways _ refl taken)
-takes_is_container Subscription taken = absurd (both_ways _ refl taken)
-takes_is_container AccessControlPolicyAnnc taken = absurd (both_ways _ refl taken)
-takes_is_container AeAnnc taken = absurd (both_ways _ refl taken)
-takes_is_container ContainerAnnc taken = absurd (both_ways _ refl taken)
-takes_is_container ContentInstanceAnnc taken = absurd (both_ways _ refl taken)
-takes_is_container GroupAnnc taken = absurd (both_ways _ refl taken)
+takes_is_container _ taken = absurd (both_ways _ refl taken)
 
 -- a type by its number
 container_type : (t : Ty) → is_ty t Container ≡ true → t ≡ Container

@@ -5,9 +5,8 @@ use Rattle.m2m_names.specs.declared.attributes.Attr.TheVariants.{St}
 use Rattle.m2m_names.specs.declared.types.Ty.TheVariants.{Container}
 use Rattle.resource_model.specs.Attributes.{value_of}
 use Rattle.resource_model.specs.Resource.{ResourceData, is_ty}
-use Rattle.tree_model.specs.Tree.{at, may_stand, has_state, instance_size, instances_of, is_tree, restamped_at}
+use Rattle.tree_model.specs.Tree.{at, may_stand, has_state, instance_size, instances_of, restamped_at}
 use Rattle.tree_model.proofs.QuietLemmas.{number_passes}
-use Rattle.tree_model.proofs.StampLemmas.{tree_restamped}
 use Rattle.tree_model.proofs.TreeLemmas.{at_number}
 use Rattle.container_limits.specs.Limits.{evicted, limits_of}
 use Rattle.entity_model.specs.Entity.{EntityData}
@@ -16,7 +15,7 @@ use Rattle.create_delete.specs.Changing.{nodes_joined, with_new_instance, pushed
 use Rattle.create_delete.specs.Joining.{JoinsAt, MayJoinContainer}
 use Rattle.create_delete.specs.NewResource.{IsNewInstance, IsNewResource}
 use Rattle.create_delete.specs.declared.joining.ContainerUpdate.{ContainerUpdate}
-use Rattle.create_delete.proofs.InstanceLemmas.{grown_tree, is_container, sound_filled, there}
+use Rattle.create_delete.proofs.InstanceLemmas.{is_container, sound_filled, there}
 use Rattle.tree_model.proofs.GrowthLemmas.{fits_parts}
 
 pub newcomer_fits : (e : EntityData) (r : ResourceData) → IsNewResource e r → may_stand e.nodes r ≡ true
@@ -39,9 +38,6 @@ filling_state e r f sound may =
     ap (λ (n : ℕ). has_state n (e.nodes ++ r ∷ [])) may.container
     ∙ ap (λ (o : Option ResourceData). option_map_or (λ s. is_some (value_of St s.attrs)) o false) found
     ∙ tagged c (is_container e r c f.state sound may.joins) tag
-
-pub filling_tree : (e : EntityData) (r : ResourceData) (f : ContainerUpdate) → IsSoundEntity e → MayJoinContainer e r f → is_tree (restamped_at f.container e.last f.state (e.nodes ++ r ∷ [])) ≡ true
-filling_tree e r f sound may = tree_restamped (e.nodes ++ r ∷ []) f.container e.last f.state (grown_tree e r may.parent f.state sound may.joins) (filling_state e r f sound may)
 
 -- a container is the resource of its number
 pub pushes_named : (e : EntityData) (r c : ResourceData) (st : ℕ) → IsNewInstance e r c st → evicted (limits_of c) (Some (instance_size r)) e.last (instances_of r.parent e.nodes) ≡ pushed_out e c (Some (instance_size r))

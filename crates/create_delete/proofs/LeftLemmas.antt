@@ -22,7 +22,7 @@ use Rattle.container_limits.proofs.LimitLemmas.{fit_here, fits_totals}
 use Rattle.entity_model.specs.Entity.{EntityData}
 use Rattle.entity_model.specs.Sound.{is_within_limits, IsSoundEntity}
 use Rattle.create_delete.specs.Changing.{is_numbered_in, pushed_out, without_all}
-use Rattle.create_delete.proofs.GrownLemmas.{none_all, nothing_picked}
+use Rattle.create_delete.proofs.GrownLemmas.{none_all, picked_never}
 use Rattle.create_delete.proofs.InstanceLemmas.{instance_type}
 use Rattle.create_delete.proofs.KeptLemmas.{all_by_two, not_kept_parts}
 use Rattle.create_delete.proofs.PrunedLemmas.{IsPruning, instance_due, split}
@@ -236,8 +236,4 @@ module _ (e : EntityData) (c : ResourceData) (sound : IsSoundEntity e) (found : 
   pub pushes_nothing : pushed_out e c None ≡ []
   pushes_nothing =
       ap (λ (ss : List ResourceData). numbers_of (filter (λ s. not (has s.number ss)) own)) keeps_all
-      ∙ ap numbers_of (filter_among (λ s. not (has s.number own)) (λ s. false) own (λ s there. ap not there) ∙ nothing_picked (λ s. false) own (none_false own))
-    where
-      none_false : (ss : List ResourceData) → list_all (λ (s : ResourceData). not false) ss ≡ true
-      none_false [] = refl
-      none_false (s ∷ ss) = none_false ss
+      ∙ ap numbers_of (filter_among (λ s. not (has s.number own)) (λ s. false) own (λ s there. ap not there) ∙ picked_never own)

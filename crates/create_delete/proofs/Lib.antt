@@ -21,7 +21,6 @@ pub mod RelayingLemmas
 pub mod RelinkLemmas
 pub mod ReplacedLemmas
 pub mod ReplacementLemmas
-pub mod ResultLemmas
 pub mod RightCreateLemmas
 pub mod RightLemmas
 pub mod RightUpdateLemmas

@@ -1,15 +1,14 @@
 -- What a group keeps of its members is of the kinds of a group's attributes.
-use Rattle.std.specs.Prelude.{◌==◌, nat_le, nat_lt, min}
-use Rattle.std.proofs.Common.{◌≡◌, ℕ, ◌+◌, ◌^◌, ◌<◌, ◌≤◌, List, [], ◌∷◌, ◌++◌, length, map, Bool, true, false, cond, not, ◌&&◌, Option, Some, None, is_some, option_and_then, unwrap_or, if◌then◌else◌, filter, bytes_eq, inl, inr, refl, sym, ap, ◌∙◌, arith}
+use Rattle.std.specs.Prelude.{◌==◌, min}
+use Rattle.std.proofs.Common.{◌≡◌, ℕ, ◌+◌, ◌^◌, ◌<◌, ◌≤◌, List, [], ◌∷◌, ◌++◌, length, map, Bool, true, false, not, ◌&&◌, Option, Some, None, is_some, option_and_then, unwrap_or, if◌then◌else◌, bytes_eq, inl, inr, refl, sym, ap, ◌∙◌, arith}
 use Rattle.std.proofs.lemmas.Bool.{cases_Bool, and_parts, and_from, both_ways, eqb-true, leb-true, lt-ltb}
 use Rattle.std.proofs.lemmas.List.Sums.{count_by-le-length, length-filter}
-use Rattle.std.proofs.lemmas.Option.{same_Some}
 use Rattle.std.specs.Int.{is_in_range}
 use Rattle.std.specs.List.{list_all, list_any, filter_map, cons_option}
 use Rattle.std.specs.Option.{option_map_or}
 use Rattle.m2m_names.specs.Attributes.{attr_short}
 use Rattle.m2m_names.specs.declared.attributes.Attr.{Attr}
-use Rattle.m2m_names.specs.declared.attributes.Attr.TheVariants.{Csy, Mid, Mnm, Mt}
+use Rattle.m2m_names.specs.declared.attributes.Attr.TheVariants.{Csy, Mid, Mt}
 use Rattle.m2m_names.specs.declared.types.Ty.{Ty}
 use Rattle.m2m_names.specs.declared.types.Ty.TheVariants.{Group}
 use Rattle.m2m_names.proofs.ListLemmas.{all_filtered}
@@ -19,12 +18,11 @@ use Rattle.m2m_value.specs.Node.{AreSorted}
 use Rattle.m2m_value.specs.Shapes.{as_count, is_text_of}
 use Rattle.m2m_value.specs.View.{as_list, as_text, member_of}
 use Rattle.m2m_value.proofs.Levels.{elements-elements_of}
-use Rattle.resource_model.specs.Attributes.{Row, count_at, is_attr, value_of}
+use Rattle.resource_model.specs.Attributes.{Row, value_of}
 use Rattle.resource_model.specs.Resource.{ResourceData, is_ty}
-use Rattle.resource_model.proofs.AttributeLemmas.{is_attr-same}
 use Rattle.attribute_kinds.specs.Kinds.{has_kind, is_member_type, is_point}
-use Rattle.attribute_kinds.specs.declared.kinds.Kind.TheVariants.{MemberType, OneOf, Points}
-use Rattle.attribute_rules.specs.Admission.{are_admitted, is_named}
+use Rattle.attribute_kinds.specs.declared.kinds.Kind.TheVariants.{Points}
+use Rattle.attribute_rules.specs.Admission.{are_admitted}
 use Rattle.attribute_rules.specs.Contents.{does_clear, edit_in, edited, wanted_in}
 use Rattle.attribute_rules.specs.Kinds.{is_attr_kind, have_kinds, are_kinds}
 use Rattle.attribute_rules.specs.declared.table.Writing.TheVariants.{Create as Creating, Update as Updating}
@@ -32,31 +30,19 @@ use Rattle.attribute_rules.proofs.KindLemmas.{created_members, updated_members}
 use Rattle.attribute_rules.proofs.ValueLemmas.{value_edited, value_wanted}
 use Rattle.policy_eval.specs.Rules.{listed_in, texts_of}
 use Rattle.entity_model.specs.Entity.{EntityData}
+use Rattle.entity_model.proofs.SpentLemmas.{kind_found}
 use Rattle.request_rules.specs.Creation.{Creation}
-use Rattle.request_rules.specs.Groups.{MembershipData, any_type, are_few, distinct_texts, does_edit_members, group_rows, has_other_type, is_left_out, kept_among, member_rows, members_edited, members_kept, members_wanted, membership_edited, membership_new, new_after, set_mixed, type_kept}
+use Rattle.request_rules.specs.Groups.{MembershipData, are_few, distinct_texts, does_edit_members, group_rows, has_other_type, is_left_out, member_rows, members_edited, members_kept, members_wanted, membership_edited, membership_new, new_after, set_mixed, type_kept}
 
 -- ---- one attribute
 
--- a value that is kept of an attribute is of its kind
-value_kind : (ty : Ty) (a : Attr) (rows : List Row) (d : Data) → have_kinds ty rows ≡ true → value_of a rows ≡ Some d → is_attr_kind ty (a, d) ≡ true
-value_kind ty a [] d all found = cc
-value_kind ty a (row ∷ rows) d all found =
-    let parts = and_parts (is_attr_kind ty row) (have_kinds ty rows) all in
-    elim (cases_Bool (is_attr a row.0)) [
-      | inl t ↦
-          let name : row.0 ≡ a = sym (is_attr-same a row.0 t) in
-          let value : row.1 ≡ d = same_Some row.1 d (rw t at found) in
-          ap (λ (x : Data). is_attr_kind ty (a, x)) (sym value) ∙ ap (λ (b : Attr). is_attr_kind ty (b, row.1)) (sym name) ∙ parts.0
-      | inr f ↦ value_kind ty a rows d parts.1 (rw f at found)
-    ]
-
--- so what is found there, if anything, is
+-- what is found of an attribute, if anything, is of its kind
 value_fits : (a : Attr) (rows : List Row) → have_kinds Group rows ≡ true → option_map_or (λ (d : Data). is_attr_kind Group (a, d)) (value_of a rows) true ≡ true
 value_fits a rows kinds = by_value (value_of a rows) refl
   where
     by_value : (o : Option Data) → value_of a rows ≡ o → option_map_or (λ (d : Data). is_attr_kind Group (a, d)) o true ≡ true
     by_value None is = refl
-    by_value (Some d) is = value_kind Group a rows d kinds is
+    by_value (Some d) is = kind_found Group a rows d kinds is
 
 -- the values of a list of addresses
 listed_points : (o : Option Data) → option_map_or (has_kind Points) o true ≡ true → list_all (is_text_of is_point) (listed_in o) ≡ true

@@ -15,7 +15,7 @@ use Rattle.tree_model.proofs.TreeLemmas.{at_number}
 use Rattle.entity_model.specs.Entity.{EntityData, with_notes}
 use Rattle.entity_model.specs.Places.{Effect, refused}
 use Rattle.entity_model.specs.Sound.{IsSoundEntity}
-use Rattle.entity_model.proofs.SoundLemmas.{framed_from, sound_framed}
+use Rattle.entity_model.proofs.SoundLemmas.{sound_items}
 use Rattle.entity_model.proofs.WaitingLemmas.{order_noted, waiting_noted}
 use Rattle.request_rules.specs.Order.{fault_at, fault_on}
 use Rattle.request_rules.specs.Rights.{is_granted}
@@ -44,26 +44,10 @@ pub ruleset notify_cases = (notify_done, notify_refused)
 -- a note that is appended leaves an entity sound
 pub sound_noted : (note : NoteParts) (e : EntityData) → IsSoundEntity e → IsSoundEntity (with_notes (note ∷ []) e)
 sound_noted note e sound =
-    let framed = framed_from e sound in
-    sound_framed _ (record {
-      numbers = framed.numbers;
-      next = framed.next;
-      ids = framed.ids;
-      tree = framed.tree;
-      base = framed.base;
-      names = framed.names;
-      home = framed.home;
-      depth = framed.depth;
-      count = framed.count;
-      kinds = framed.kinds;
-      tags = framed.tags;
-      cses = framed.cses;
-      channels = framed.channels;
-      sizes = framed.sizes;
-      last = framed.last;
-      waiting = waiting_noted (note ∷ []) e.numbered e.last e.items framed.waiting;
-      moments = order_noted (note ∷ []) e.numbered e.last e.items framed.moments framed.waiting;
-    }) sound.limits sound.due
+    let noted = with_notes (note ∷ []) e in
+    sound_items e noted.items noted.numbered sound
+    (waiting_noted (note ∷ []) e.numbered e.last e.items sound.waiting)
+    (order_noted (note ∷ []) e.numbered e.last e.items sound.moments sound.waiting)
 
 pub notify_nodes : (e : EntityData) (o : List ℕ) (request : RequestParts) (n : ℕ) → (notify_at e o request n).after.nodes ≡ e.nodes
 notify_nodes e o request n = by_fault (fault_at Notify e o request n) refl

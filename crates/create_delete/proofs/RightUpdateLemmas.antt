@@ -4,10 +4,10 @@ use Rattle.std.proofs.lemmas.Bool.{cases_Bool, cases_eq, both_ways}
 use Rattle.std.proofs.lemmas.Option.{same_Some}
 use Rattle.m2m_names.specs.Operations.{op_row}
 use Rattle.m2m_names.specs.declared.operations.Op.TheVariants.{Update}
-use Rattle.m2m_names.specs.declared.types.Ty.TheVariants.{Container, ContentInstance}
+use Rattle.m2m_names.specs.declared.types.Ty.TheVariants.{ContentInstance}
 use Rattle.m2m_value.specs.Data.{Entry}
 use Rattle.primitive_json.specs.declared.request.RequestParts.{RequestParts}
-use Rattle.resource_model.specs.Resource.{ResourceData, is_ty}
+use Rattle.resource_model.specs.Resource.{ResourceData}
 use Rattle.tree_model.specs.Tree.{at, instances_of, is_instance, is_tree, replaced}
 use Rattle.tree_model.proofs.GrowthLemmas.{tree_from_well_formed}
 use Rattle.tree_model.proofs.KeptLemmas.{is_tree-replaced}
@@ -21,13 +21,13 @@ use Rattle.request_rules.specs.Order.{fault_at, fault_on}
 use Rattle.request_rules.specs.Requests.{content_for, named_by}
 use Rattle.request_rules.specs.Rights.{is_granted, is_relink, may_update}
 use Rattle.request_rules.proofs.OrderLemmas.{found_at, nothing_on, places_parts}
-use Rattle.create_delete.specs.Changing.{nodes_updated, effect_at, pushed_by, pushed_out, update_effect, updated_resource, without_all}
+use Rattle.create_delete.specs.Changing.{nodes_updated, effect_at, pushed_by, update_effect, updated_resource, without_all}
 use Rattle.create_delete.specs.Guard.{ChangesByRight, DiffersIn, IsChanged, IsChangedByRight, IsGone, IsNew, IsRemovedByRight, link_attrs}
 use Rattle.create_delete.specs.NewResource.{IsReplacement}
 use Rattle.create_delete.specs.Updating.{IsUpdatable}
 use Rattle.create_delete.proofs.LeftLemmas.{all_left, is_left, pushes_nothing, IsLeft}
 use Rattle.create_delete.proofs.EffectLemmas.{done_at}
-use Rattle.create_delete.proofs.PushingLemmas.{nothing_removed}
+use Rattle.create_delete.proofs.PushingLemmas.{by_pushing, nothing_removed}
 use Rattle.create_delete.proofs.RelinkLemmas.{limits_kept, links_stay, names_link, names_no_link, relinked}
 use Rattle.create_delete.proofs.ReplacedLemmas.{replaced_by, still_there}
 use Rattle.create_delete.proofs.ReplacementLemmas.{replacement}
@@ -51,16 +51,10 @@ module _ (e : EntityData) (sound : IsSoundEntity e) (now : ResourceData) (new : 
   now_there = at-replaced now e.nodes (still_there e.nodes now new.stood)
 
   pub updated_left : IsLeft now.number turned (nodes_updated e now)
-  updated_left = elim (cases_Bool (is_ty now.ty Container)) [
-    | inl t ↦
-        let same : pushed_out e now None ≡ pushed_by e now = rw t refl in
-        subst (λ (gone : List ℕ). IsLeft now.number turned (without_all gone turned)) same
-        (is_left now.number (replaced_by e now) now None (instances_of now.number e.nodes) [] (pruning e now sound new))
-    | inr f ↦
-        let none : pushed_by e now ≡ [] = rw f refl in
-        subst (IsLeft now.number turned) (sym (ap (λ (gone : List ℕ). without_all gone turned) none ∙ nothing_removed turned turned_tree))
-        (all_left now.number turned)
-  ]
+  updated_left =
+      by_pushing (λ (gone : List ℕ). IsLeft now.number turned (without_all gone turned)) e now
+      (λ t. is_left now.number (replaced_by e now) now None (instances_of now.number e.nodes) [] (pruning e now sound new))
+      (λ f. subst (IsLeft now.number turned) (sym (nothing_removed turned turned_tree)) (all_left now.number turned))
 
   -- what stands after it stood there, but for the resource itself
   pub stood_before : (m : ℕ) (s : ResourceData) → m ≢ now.number → at m (nodes_updated e now) ≡ Some s → at m e.nodes ≡ Some s
@@ -120,15 +114,13 @@ module _ (e : EntityData) (sound : IsSoundEntity e) (o : List ℕ) (request : Re
 
   -- a change of `acpi` alone pushes out nothing
   pushes_none : is_relink request ≡ true → pushed_by e now ≡ []
-  pushes_none link = elim (cases_Bool (is_ty old.ty Container)) [
-    | inl t ↦
-        let differs : DiffersIn (link_attrs old.ty) old now = relinked e es old (names_link request old.ty es link whole) in
-        let pushes : pushed_by e now ≡ pushed_out e now None = rw t refl in
-        pushes
-        ∙ ap (λ l. evicted l None e.last (instances_of old.number e.nodes)) (limits_kept old now t differs)
-        ∙ pushes_nothing e old sound may.stands t
-    | inr f ↦ rw f refl
-  ]
+  pushes_none link =
+      by_pushing (λ (gone : List ℕ). gone ≡ []) e now
+      (λ t.
+      let differs : DiffersIn (link_attrs old.ty) old now = relinked e es old (names_link request old.ty es link whole) in
+      ap (λ l. evicted l None e.last (instances_of old.number e.nodes)) (limits_kept old now t differs)
+      ∙ pushes_nothing e old sound may.stands t)
+      (λ f. refl)
 
   removed : (r : ResourceData) → IsGone e.nodes after.nodes r → IsRemovedByRight Update e o old.number [] r
   removed r gone = elim (cases_eq r.number now.number) [

@@ -1,9 +1,8 @@
 -- What an operation changes by right, it does also where it is told, and subscriptions that count
 -- are lowered.
 use Rattle.std.specs.Prelude.{◌==◌, ◌⊎◌}
-use Rattle.std.proofs.Common.{◌≡◌, ℕ, ◌-◌, ◌<◌, ◌≤◌, List, [], Bool, true, false, not, cond, Option, Some, None, option_map, inl, inr, refl, sym, ap, ◌∙◌, subst, arith}
+use Rattle.std.proofs.Common.{◌≡◌, ℕ, ◌-◌, ◌≤◌, List, [], Bool, true, false, not, cond, Option, Some, None, option_map, inl, inr, refl, sym, ap, ◌∙◌, subst, arith}
 use Rattle.std.proofs.lemmas.Bool.{cases_Bool, both_ways, eqb-true, false_from_ne_true}
-use Rattle.std.proofs.lemmas.Bool.Decides.{nat_tests}
 use Rattle.std.proofs.lemmas.Option.{same_Some}
 use Rattle.std.specs.Option.{option_map_or}
 use Rattle.m2m_names.proofs.TypeLemmas.{same_type}
@@ -22,7 +21,7 @@ use Rattle.tree_model.proofs.TakenLemmas.{all_taken}
 use Rattle.tree_model.proofs.TreeLemmas.{at-map, at_number}
 use Rattle.entity_model.specs.Entity.{EntityData, with_told}
 use Rattle.entity_model.specs.Sound.{IsSoundEntity}
-use Rattle.entity_model.proofs.SpentLemmas.{counts_to, lowered_stands}
+use Rattle.entity_model.proofs.SpentLemmas.{counts_to, lowered_stands, not_none, taken_from}
 use Rattle.policy_eval.specs.Rights.{create_bit}
 use Rattle.request_rules.specs.Rights.{is_granted}
 use Rattle.create_delete.specs.Guard.{ChangesByRight, IsChanged, IsChangedByRight, IsGone, IsLowered, IsNew, IsRemovedByRight, IsSpentBy}
@@ -31,24 +30,7 @@ use Rattle.create_delete.proofs.LeftLemmas.{at_left, left_stood, AreLeaves}
 
 -- ---- what is left to a resource
 
--- the resource counts and was told something, and so many are left
-record IsTakenFrom (drafts : List DraftParts) (r : ResourceData) (left : ℕ) : Type 0 where
-  old : ℕ
-  counted : left_to r ≡ Some old
-  told : (count_for r.number drafts == 0) ≡ false
-  rest : left ≡ old - count_for r.number drafts
-
-taken_from : (drafts : List DraftParts) (r : ResourceData) (left : ℕ) → left_of drafts r ≡ Some left → IsTakenFrom drafts r left
-taken_from drafts r left is = elim (cases_Bool (count_for r.number drafts == 0)) [
-  | inl t ↦ (let none : None ≡ Some left = rw t at is in cc)
-  | inr f ↦ by (left_to r) refl f (rw f at is)
-]
-  where
-    by : (o : Option ℕ) → left_to r ≡ o → (count_for r.number drafts == 0) ≡ false → option_map (λ left. left - count_for r.number drafts) o ≡ Some left → IsTakenFrom drafts r left
-    by None found told none = cc
-    by (Some old) found told some = record { old = old; counted = found; told = told; rest = sym (same_Some (old - count_for r.number drafts) left some) }
-
--- and one that is spent
+-- a resource that is spent
 record IsSpentNow (drafts : List DraftParts) (r : ResourceData) : Type 0 where
   old : ℕ
   counted : left_to r ≡ Some old
@@ -65,9 +47,6 @@ spent_now drafts r is = by (left_of drafts r) refl is
         let none : left ≡ 0 = eqb-true left 0 some in
         let rest : left ≡ from.old - count_for r.number drafts = from.rest in
         record { old = from.old; counted = from.counted; told = from.told; all = omega (arith, none, rest) }
-
-some_told : (k : ℕ) → (k == 0) ≡ false → 1 ≤ k
-some_told k some = grind (arith, nat_tests)
 
 module _ (op : Op) (e : EntityData) (o : List ℕ) (n : ℕ) (drafts : List DraftParts) (after : EntityData) (sound : IsSoundEntity after) (keeps : KeepsTold e.nodes drafts after.nodes) (right : ChangesByRight op e o n [] after) where
   abbrev left : List ResourceData
@@ -148,8 +127,8 @@ module _ (op : Op) (e : EntityData) (o : List ℕ) (n : ℕ) (drafts : List Draf
       by None is some = inl (rw (some, is) refl)
       by (Some old) is some =
           let counts = counts_to x old (kinds x.number x found) is in
-          let told : 1 ≤ count_for x.number drafts = some_told (count_for x.number drafts) some in
-          let some_left : 1 ≤ old - count_for x.number drafts = some_told (old - count_for x.number drafts) (rw (some, is) at unspent) in
+          let told : 1 ≤ count_for x.number drafts = not_none (count_for x.number drafts) some in
+          let some_left : 1 ≤ old - count_for x.number drafts = not_none (old - count_for x.number drafts) (rw (some, is) at unspent) in
           inr (record {
             kind = counts.subscription;
             old = old;
@@ -218,7 +197,7 @@ module _ (op : Op) (e : EntityData) (o : List ℕ) (n : ℕ) (drafts : List Draf
           let spent = spent_now drafts x (is_gone (is_spent drafts x) x none) in
           let was : r ≡ x = same_Some r x (sym gone.0 ∙ ap (λ (m : ℕ). at m e.nodes) (sym number) ∙ keeps x own spent.told) in
           let counts = counts_to x spent.old (kinds x.number x own) spent.counted in
-          let some : 1 ≤ count_for x.number drafts = some_told (count_for x.number drafts) spent.told in
+          let some : 1 ≤ count_for x.number drafts = not_none (count_for x.number drafts) spent.told in
           let by_drafts : IsSpentBy drafts x = record { kind = counts.subscription; old = spent.old; counted = spent.counted; told = omega arith; all = spent.all } in
           inr (inr (subst (IsSpentBy drafts) (sym was) by_drafts))
 

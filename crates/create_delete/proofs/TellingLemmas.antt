@@ -16,18 +16,16 @@ use Rattle.m2m_value.specs.Node.{AreSorted}
 use Rattle.resource_model.specs.Resource.{ResourceData}
 use Rattle.tree_model.specs.Tree.{has, line_of}
 use Rattle.tree_model.proofs.GrowthLemmas.{line-append, stands, tree_from_well_formed}
-use Rattle.tree_model.proofs.ShownLemmas.{one_sorted, slash_utf8}
+use Rattle.tree_model.proofs.ShownLemmas.{slash_utf8}
 use Rattle.tree_model.proofs.TreeLemmas.{has_at, line_all}
 use Rattle.addressing.specs.Addresses.{joined}
 use Rattle.addressing.specs.Names.{names_to, structured_of}
+use Rattle.addressing.proofs.PartLemmas.{joined_after}
 use Rattle.entity_model.specs.Entity.{EntityData}
 use Rattle.entity_model.specs.Sound.{has_free_name, IsSoundEntity}
 use Rattle.m2m_names.proofs.ListLemmas.{all_reversed}
 
 -- ---- members in order
-
-pub sorted_alone : (es : List Entry) (e : Entry) → es ≡ [] ++ e ∷ [] → AreSorted es
-sorted_alone es e is = subst AreSorted (sym is) (one_sorted e)
 
 type_first : (ty : Ty) (a b : Data) → AreSorted ((ty_member ty, a) ∷ (codes "uri", b) ∷ [])
 unfolding IsStrictlySortedBy
@@ -68,22 +66,13 @@ type_utf8 GroupAnnc = graphic_is_utf8 (codes "m2m:grpA") refl
 
 -- ---- the address of what comes last
 
-joined_push : (part : List ℕ) (parts : List (List ℕ)) (name : List ℕ) → joined ((part ∷ parts) ++ name ∷ []) ≡ joined (part ∷ parts) ++ 47 ∷ name
-joined_push part [] name = refl
-joined_push part (next ∷ parts) name =
-    ap (λ t. part ++ 47 ∷ t) (joined_push next parts name) ∙ sym (append_assoc part (47 ∷ joined (next ∷ parts)) (47 ∷ name))
-
-joined_two : (parts : List (List ℕ)) (part name : List ℕ) → joined ((parts ++ part ∷ []) ++ name ∷ []) ≡ joined (parts ++ part ∷ []) ++ 47 ∷ name
-joined_two [] part name = refl
-joined_two (first ∷ parts) part name = joined_push first (parts ++ part ∷ []) name
-
 path_last : (nodes : List ResourceData) (r p : ResourceData) → line_of r.parent nodes ≡ p ∷ line_of p.parent nodes → structured_of r.number (nodes ++ r ∷ []) ≡ structured_of r.parent nodes ++ 47 ∷ r.name
 path_last nodes r p line =
     let name : ResourceData → List ℕ = λ s. s.name in
     let own : line_of r.number (nodes ++ r ∷ []) ≡ r ∷ line_of r.parent nodes = line-append r.number nodes r ∙ rw (eq-eqb r.number r.number refl) refl in
     let above : names_to r.parent nodes ≡ names_to p.parent nodes ++ p.name ∷ [] = ap (λ (rs : List ResourceData). reverse (map name rs)) line ∙ reverse-append (p.name ∷ []) (map name (line_of p.parent nodes)) in
     let names : names_to r.number (nodes ++ r ∷ []) ≡ names_to r.parent nodes ++ r.name ∷ [] = ap (λ (rs : List ResourceData). reverse (map name rs)) own ∙ reverse-append (r.name ∷ []) (map name (line_of r.parent nodes)) in
-    ap joined (names ∙ ap (λ ns. ns ++ r.name ∷ []) above) ∙ joined_two (names_to p.parent nodes) p.name r.name
+    ap joined (names ∙ ap (λ ns. ns ++ r.name ∷ []) above) ∙ joined_after (names_to p.parent nodes) p.name r.name
     ∙ ap (λ ns. joined ns ++ 47 ∷ r.name) (sym above)
 
 pub path_of_last : (e : EntityData) (r : ResourceData) (parent path : List ℕ) → IsSoundEntity e → has r.parent e.nodes ≡ true → parent ≡ structured_of r.parent e.nodes → path ≡ (parent ++ 47 ∷ []) ++ r.name → path ≡ structured_of r.number (e.nodes ++ r ∷ [])

@@ -1,9 +1,8 @@
 -- The resources of the numbers that a limit pushes out, in the order of the numbers, are those of a tree that have one of them.
-use Rattle.std.proofs.Common.{◌≡◌, ℕ, List, [], ◌∷◌, Bool, true, false, not, ◌&&◌, Option, None, inl, inr, refl, sym, ap, ◌∙◌, subst}
+use Rattle.std.proofs.Common.{◌≡◌, ℕ, List, [], ◌∷◌, Bool, true, not, ◌&&◌, Option, None, inl, inr, refl, sym, ap, ◌∙◌, subst}
 use Rattle.std.proofs.lemmas.Bool.{cases_Bool}
-use Rattle.std.specs.List.{filter, list_all}
-use Rattle.m2m_names.specs.declared.types.Ty.TheVariants.{Container}
-use Rattle.resource_model.specs.Resource.{ResourceData, is_ty}
+use Rattle.std.specs.List.{filter}
+use Rattle.resource_model.specs.Resource.{ResourceData}
 use Rattle.tree_model.specs.Tree.{has, instances_of, is_instance, is_tree}
 use Rattle.tree_model.proofs.OrderLemmas.{placed_stands, tree_ascends}
 use Rattle.container_limits.specs.Limits.{evicted, kept, limits_of, numbers_of}
@@ -12,8 +11,9 @@ use Rattle.entity_model.specs.Entity.{EntityData}
 use Rattle.entity_model.proofs.ExpiryLemmas.{those_all}
 use Rattle.create_delete.specs.Changes.{those_of}
 use Rattle.create_delete.specs.Changing.{is_numbered_in, pushed_by}
-use Rattle.create_delete.proofs.GrownLemmas.{nothing_picked}
+use Rattle.create_delete.proofs.GrownLemmas.{picked_never}
 use Rattle.create_delete.proofs.KeptLemmas.{among_numbers, in_kept}
+use Rattle.create_delete.proofs.PushingLemmas.{by_pushing}
 use Rattle.tree_model.proofs.TreeLemmas.{filter_among}
 
 filter_both : (p q : ResourceData → Bool) (rs : List ResourceData) → filter q (filter p rs) ≡ filter (λ s. p s && q s) rs
@@ -51,19 +51,15 @@ numbers_evicted limits size moment n nodes tree =
     subst (λ (rs : List ResourceData). numbers_of (filter (is_numbered_in (numbers_of rs)) nodes) ≡ numbers_of rs) (sym (filter_both (is_instance n) goes nodes))
     (numbers_picked (λ s. is_instance n s && goes s) nodes tree)
 
-none_false : (nodes : List ResourceData) → list_all (λ (s : ResourceData). not false) nodes ≡ true
-none_false [] = refl
-none_false (s ∷ nodes) = none_false nodes
-
 -- those that an update pushes out
 pub those_pushed : (e : EntityData) (c : ResourceData) → is_tree e.nodes ≡ true → those_of (pushed_by e c) e.nodes ≡ filter (is_numbered_in (pushed_by e c)) e.nodes
-those_pushed e c tree = elim (cases_Bool (is_ty c.ty Container)) [
-  | inl t ↦ rw t (those_evicted (limits_of c) None e.last c.number e.nodes tree)
-  | inr f ↦ rw f (sym (nothing_picked (is_numbered_in []) e.nodes (none_false e.nodes)))
-]
+those_pushed e c tree =
+    by_pushing (λ (gone : List ℕ). those_of gone e.nodes ≡ filter (is_numbered_in gone) e.nodes) e c
+    (λ t. those_evicted (limits_of c) None e.last c.number e.nodes tree)
+    (λ f. sym (picked_never e.nodes))
 
 pub numbers_pushed : (e : EntityData) (c : ResourceData) → is_tree e.nodes ≡ true → numbers_of (filter (is_numbered_in (pushed_by e c)) e.nodes) ≡ pushed_by e c
-numbers_pushed e c tree = elim (cases_Bool (is_ty c.ty Container)) [
-  | inl t ↦ rw t (numbers_evicted (limits_of c) None e.last c.number e.nodes tree)
-  | inr f ↦ rw f (ap numbers_of (nothing_picked (is_numbered_in []) e.nodes (none_false e.nodes)))
-]
+numbers_pushed e c tree =
+    by_pushing (λ (gone : List ℕ). numbers_of (filter (is_numbered_in gone) e.nodes) ≡ gone) e c
+    (λ t. numbers_evicted (limits_of c) None e.last c.number e.nodes tree)
+    (λ f. ap numbers_of (picked_never e.nodes))

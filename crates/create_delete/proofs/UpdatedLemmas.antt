@@ -1,6 +1,6 @@
 -- Soundness where a resource is updated.
-use Rattle.std.proofs.Common.{◌≡◌, ℕ, List, [], true, false, not, ◌||◌, Option, Some, None, inl, inr, refl, sym, ap, ◌∙◌, subst, arith}
-use Rattle.std.proofs.lemmas.Bool.{cases_Bool, and_from, or_left, or_right, both_ways, not_from_false, eqb-true, false_from_ne_true}
+use Rattle.std.proofs.Common.{◌≡◌, ℕ, List, [], true, false, not, ◌||◌, Option, Some, None, refl, sym, ap, ◌∙◌, subst, arith}
+use Rattle.std.proofs.lemmas.Bool.{and_from, or_left, or_right, both_ways, not_from_false, eqb-true, false_from_ne_true}
 use Rattle.std.proofs.lemmas.List.{append-nil}
 use Rattle.std.proofs.lemmas.Option.{same_Some}
 use Rattle.std.specs.Option.{option_map_or}
@@ -19,12 +19,12 @@ use Rattle.tree_model.proofs.OrderLemmas.{ascend_filter, tree_ascends}
 use Rattle.entity_model.specs.Entity.{EntityData}
 use Rattle.entity_model.specs.Sound.{IsSoundEntity}
 use Rattle.entity_model.proofs.SoundLemmas.{framed_from}
-use Rattle.create_delete.specs.Changing.{nodes_updated, pushed_by, pushed_out, without_all}
+use Rattle.create_delete.specs.Changing.{nodes_updated, pushed_by, without_all}
 use Rattle.create_delete.specs.NewResource.{IsReplacement}
 use Rattle.create_delete.proofs.GrownLemmas.{is_within_but, nothing_within, within_by}
 use Rattle.create_delete.proofs.InstanceLemmas.{instance_type, takes_is_container}
 use Rattle.create_delete.proofs.PrunedLemmas.{IsPruning, IsSoundBut, restored, sound_pruned}
-use Rattle.create_delete.proofs.PushingLemmas.{nothing_removed}
+use Rattle.create_delete.proofs.PushingLemmas.{by_pushing, nothing_removed}
 use Rattle.create_delete.proofs.ReplacedLemmas.{framed_replaced, instances_replaced, quiet_but_replaced, replaced_by, still_there, within_but_replaced}
 use Rattle.m2m_names.proofs.ListLemmas.{all_weaker}
 use Rattle.tree_model.proofs.TakenLemmas.{all_taken}
@@ -83,16 +83,10 @@ module _ (e : EntityData) (c : ResourceData) (sound : IsSoundEntity e) (new : Is
   pub sound_updated : IsSoundEntity (record { home = e.home; nodes = without_all (pushed_by e c) (replaced c e.nodes); next = e.next; last = e.last; items = e.items; numbered = e.numbered })
   sound_updated =
       let entity : List ℕ → EntityData = λ gone. record { home = e.home; nodes = without_all gone now; next = e.next; last = e.last; items = e.items; numbered = e.numbered } in
-      elim (cases_Bool (is_ty c.ty Container)) [
-        | inl t ↦
-            let same : pushed_out e c None ≡ pushed_by e c = rw t refl in
-            subst IsSoundEntity (ap entity same) (sound_pruned n (replaced_by e c) c None (instances_of n e.nodes) [] pruning)
-        | inr f ↦
-            let same : pushed_by e c ≡ [] = rw f refl in
-            let all : without_all [] now ≡ now = nothing_removed now (tree_from_well_formed now but.frame.tree) in
-            let keep : List ResourceData → EntityData = λ nodes. record { home = e.home; nodes = nodes; next = e.next; last = e.last; items = e.items; numbered = e.numbered } in
-            subst IsSoundEntity (sym (ap entity same ∙ ap keep all)) (plain_sound f)
-      ]
+      let keep : List ResourceData → EntityData = λ nodes. record { home = e.home; nodes = nodes; next = e.next; last = e.last; items = e.items; numbered = e.numbered } in
+      by_pushing (λ (gone : List ℕ). IsSoundEntity (entity gone)) e c
+      (λ t. sound_pruned n (replaced_by e c) c None (instances_of n e.nodes) [] pruning)
+      (λ f. subst IsSoundEntity (sym (ap keep (nothing_removed now (tree_from_well_formed now but.frame.tree)))) (plain_sound f))
 
 -- what the steps leave
 pub updated_after : (e : EntityData) (c : ResourceData) (gone : List ℕ) (turned left : List ResourceData) → turned ≡ replaced c e.nodes → gone ≡ pushed_by e c → left ≡ without_all gone turned → left ≡ nodes_updated e c

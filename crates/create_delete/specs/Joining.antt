@@ -19,8 +19,8 @@ use Rattle.create_delete.specs.NewResource.{IsNewInstance, IsNewResource}
 use Rattle.create_delete.specs.declared.joining.ContainerUpdate.{ContainerUpdate}
 
 -- What holds of a creation that no place refuses: its parent is there and takes it, what it names
--- stands in the order of names and is admitted, nothing that it alone may be stands there, no limit is passed, and a group's members
--- are few.
+-- stands in the order of names and is admitted, nothing that it alone may be stands there, no limit
+-- is passed, and a group's members are few.
 pub record IsAllowed (c : Creation) : Type 0 where
   pub parent : at c.parent.number c.e.nodes ≡ Some c.parent
   pub takes : IsTrue (does_take c.parent.ty c.ty)

@@ -1,5 +1,5 @@
--- What comes of a Notify to an application entity, which is handed on (TS-0001, 10.2.10; the relay is
--- the profile's).
+-- What comes of a Notify to an application entity, which is handed on (TS-0001, 10.2.10; the relay
+-- is the profile's).
 use Rattle.std.specs.Prelude.{ℕ, List, [], ◌∷◌, Some, None}
 use Rattle.m2m_names.specs.declared.codes.Rsc.TheVariants.{Ok}
 use Rattle.m2m_names.specs.declared.operations.Op.TheVariants.{Notify}
@@ -13,8 +13,8 @@ use Rattle.entity_model.specs.Entity.{EntityData, with_notes}
 use Rattle.entity_model.specs.Places.{Effect, on_found, reply_to, unless_refused}
 use Rattle.request_rules.specs.Order.{places}
 
--- the request that is handed on: by the originator, with the target and the content that it has; its
--- request identifier is given with its number
+-- the request that is handed on: by the originator, with the target and the content that it has;
+-- its request identifier is given with its number
 abbrev pub request_relayed : List ℕ → RequestParts → RequestParts
 request_relayed originator request = record {
   op = Notify;

@@ -55,8 +55,8 @@ IsSilent n nodes =
 abbrev pub gone_numbers : EntityData → EntityData → List ℕ
 gone_numbers before after = numbers_of (only_in before.nodes after.nodes)
 
--- What an operation gives that makes these changes of the entity: the reply as it is, and the entity
--- after it told of them, in which subscriptions that count are lowered, or go.
+-- What an operation gives that makes these changes of the entity: the reply as it is, and the
+-- entity after it told of them, in which subscriptions that count are lowered, or go.
 abbrev pub told_effect : EntityData → List ChangeData → Effect → Effect
 told_effect e changes effect = record effect {
   after = telling e.nodes (gone_numbers e effect.after) changes effect.after;

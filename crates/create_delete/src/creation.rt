@@ -2,6 +2,7 @@
 ghost use Rattle.std.specs.Prelude.{◌≡◌, ℕ, List, IfOk, OnOk, OnErr, IsTrue};
 ghost use Rattle.m2m_names.specs.Name.{is_originator};
 ghost use Rattle.m2m_names.specs.declared.operations.Op.TheVariants.{Create};
+ghost use Rattle.entity_model.specs.Places.{ComesTo};
 ghost use Rattle.entity_model.specs.Sound.{IsSoundEntity};
 ghost use Rattle.request_rules.specs.Creation.{size_named};
 ghost use Rattle.request_rules.specs.Judged.{IsCreateBy, Judges, creation_for};
@@ -43,10 +44,8 @@ pub fn create<T: Tree>(
     parent: u64,
 ) -> Result<Reply, OutOfMemory>
     requires { IsTrue (is_originator originator.now) }
-    ensures reply { IfOk result (λ r.
-        r ≡ (told_effect_at Create entity.old originator.now request.now parent).reply) }
-    ensures after { OnOk result
-        (entity.new ≡ (told_effect_at Create entity.old originator.now request.now parent).after) }
+    ensures gives { ComesTo result entity.new
+        (told_effect_at Create entity.old originator.now request.now parent) }
     ensures err { OnErr result (entity.new ≡ entity.old) }
 {
     match plan(alloc, entity, originator, request, parent) {

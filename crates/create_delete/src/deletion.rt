@@ -8,6 +8,7 @@ ghost use Rattle.resource_model.specs.Resource.{ResourceData};
 ghost use Rattle.tree_model.specs.Tree.{at};
 ghost use Rattle.create_delete.specs.Telling.{removed_told, told_effect_at};
 ghost use Rattle.request_rules.specs.Order.{fault_at};
+ghost use Rattle.entity_model.specs.Places.{ComesTo};
 ghost use Rattle.entity_model.specs.Places as places;
 ghost use Rattle.entity_model.specs.Sound.{IsSoundEntity};
 ghost use Rattle.request_rules.specs.Requests.{is_for};
@@ -32,10 +33,8 @@ pub fn delete<T: Tree>(
     target: u64,
 ) -> Result<Reply, OutOfMemory>
     requires { IsTrue (is_originator originator.now) }
-    ensures reply { IfOk result (λ r.
-        r ≡ (told_effect_at Delete entity.old originator.now request.now target).reply) }
-    ensures after { OnOk result
-        (entity.new ≡ (told_effect_at Delete entity.old originator.now request.now target).after) }
+    ensures gives { ComesTo result entity.new
+        (told_effect_at Delete entity.old originator.now request.now target) }
     ensures err { OnErr result (entity.new ≡ entity.old) }
 {
     if let Some(fault) = judge(entity, originator, request, target) {

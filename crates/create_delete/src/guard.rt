@@ -20,10 +20,10 @@ ghost use Rattle.create_delete.specs.declared.joining.ContainerUpdate.{Container
 /// judged on the entity before. A resource is new only under the target, with CREATE. It differs
 /// only with UPDATE, and then not in its `acpi`; or in that alone with the right to change it; or
 /// in its state tag alone where a new instance stands in it, but for the moment of its last change;
-/// or it is a subscription that counts, and was lowered alone, by as many as it was told. It is gone
-/// only at or below a target with DELETE, or as an instance of a target to which the operation adds
-/// with CREATE, or which it changes with UPDATE, or as a subscription that was told all that was left
-/// to it.
+/// or it is a subscription that counts, and was lowered alone, by as many as it was told. It is
+/// gone only at or below a target with DELETE, or as an instance of a target to which the operation
+/// adds with CREATE, or which it changes with UPDATE, or as a subscription that was told all that
+/// was left to it.
 pub fn nothing_is_changed_without_a_grant()
     ensures { (op : Op) (e : EntityData) (originator : List ℕ) (request : RequestParts) (n : ℕ)
         → IsSoundEntity e → IsTrue (is_originator originator)

@@ -1,21 +1,21 @@
 //! The requests that change an entity: Create, Update and Delete (TS-0001, 10.2).
 //!
-//! What comes of one is a function of the entity, the originator and the request
-//! (`told_effect_at` of `specs/Telling`): a refusal by the first place that doesn't hold, in the
-//! one order of the crate request_rules, and else a reply and the entity after it. That is the
-//! entity which the operation leaves (`effect_at` of `specs/Changing`), told of the changes by which
-//! it comes to be so (`changes_at` of `specs/Changes`): each subscription that looks for one of them
-//! has its item in the outbox, and one that counts is lowered, or goes. A call judges, which changes
-//! nothing; it prepares, which takes all memory, room in the outbox included; and it applies, which
-//! can't fail but where a resource is put last, which comes first. Where memory runs out nothing has
-//! changed. The crate change_laws says what holds of each operation.
+//! What comes of one is a function of the entity, the originator and the request (`told_effect_at`
+//! of `specs/Telling`): a refusal by the first place that doesn't hold, in the one order of the
+//! crate request_rules, and else a reply and the entity after it. That is the entity which the
+//! operation leaves (`effect_at` of `specs/Changing`), told of the changes by which it comes to be
+//! so (`changes_at` of `specs/Changes`): each subscription that looks for one of them has its item
+//! in the outbox, and one that counts is lowered, or goes. A call judges, which changes nothing; it
+//! prepares, which takes all memory, room in the outbox included; and it applies, which can't fail
+//! but where a resource is put last, which comes first. Where memory runs out nothing has changed.
+//! The crate change_laws says what holds of each operation.
 //!
 //! A Notify to an application entity changes no resource: it is handed on by an item of the outbox
 //! (`notify_at` of `specs/Relaying`).
 //!
 //! An originator is passed in its short form. A group keeps what was learned of its members where
-//! they were judged: who they are, without repeats and those that are left out, their type, how many
-//! there are, and whether each names a live resource.
+//! they were judged: who they are, without repeats and those that are left out, their type, how
+//! many there are, and whether each names a live resource.
 //!
 //! ```text
 //! let reply = create(alloc, entity, b"CDev", request, 1)?; // below the CSEBase

@@ -6,6 +6,7 @@ ghost use Rattle.m2m_names.specs.declared.operations.Op.TheVariants.{Notify};
 ghost use Rattle.policy_eval.specs.Rights.{notify_bit};
 ghost use Rattle.primitive_json.specs.declared.request.RequestParts.{RequestParts};
 ghost use Rattle.entity_model.specs.Entity.{EntityData, with_notes};
+ghost use Rattle.entity_model.specs.Places.{ComesTo};
 ghost use Rattle.entity_model.specs.Sound.{IsSoundEntity};
 ghost use Rattle.request_rules.specs.Order.{fault_at};
 ghost use Rattle.request_rules.specs.Rights.{is_granted};
@@ -34,10 +35,8 @@ pub fn notify<T: Tree>(
     target: u64,
 ) -> Result<Reply, OutOfMemory>
     requires { IsTrue (is_originator originator.now) }
-    ensures reply { IfOk result (λ r.
-        r ≡ (notify_at entity.old originator.now request.now target).reply) }
-    ensures after { OnOk result
-        (entity.new ≡ (notify_at entity.old originator.now request.now target).after) }
+    ensures gives { ComesTo result entity.new
+        (notify_at entity.old originator.now request.now target) }
     ensures err { OnErr result (entity.new ≡ entity.old) }
 {
     if let Some(fault) = judge(entity, originator, request, target) {

@@ -10,7 +10,7 @@ ghost use Rattle.create_delete.specs.Changing as spec;
 
 use addressing::structured;
 use attribute_rules::is_named;
-use entity_model::{Entity, wanted_content};
+use entity_model::{Entity, object_of_one, wanted_content};
 use m2m_names::{Attr, Ty};
 use m2m_value::{MemberKey, Members, Text, Val};
 use primitive_json::Request;
@@ -47,16 +47,6 @@ fn address_last<T: Tree>(
     ensures { IfOk result (λ v. v ≡ spec.address_last entity.now resource.now) }
 {
     Ok(Val::of_text(path_to_last(alloc, entity, resource)?))
-}
-
-// An object of one member.
-#[tactic(auto, using(crate::proofs::TellingLemmas::sorted_alone))]
-fn object_of_one(alloc: Global, key: &'static str, value: Val) -> Result<Val, OutOfMemory>
-    ensures { IfOk result (λ v. v ≡ json.object (json.pairs_of ((key.now, value) ∷ []))) }
-{
-    let mut members = Vec::with_capacity(alloc, 1)?;
-    members.push((MemberKey::named(key), value))?;
-    Ok(Val::of_obj(Members::of(members)))
 }
 
 // The attributes of a resource of the type, and its address.

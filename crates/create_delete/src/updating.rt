@@ -4,6 +4,7 @@ ghost use Rattle.resource_model.specs.Resource.{ResourceData};
 ghost use Rattle.tree_model.specs.Tree.{at};
 ghost use Rattle.m2m_names.specs.Name.{is_originator};
 ghost use Rattle.m2m_names.specs.declared.operations.Op.TheVariants.{Update};
+ghost use Rattle.entity_model.specs.Places.{ComesTo};
 ghost use Rattle.entity_model.specs.Sound.{IsSoundEntity};
 ghost use Rattle.request_rules.specs.Groups.{group_rows, membership_edited};
 ghost use Rattle.request_rules.specs.Judged.{Judges};
@@ -49,10 +50,8 @@ pub fn update<T: Tree>(
     target: u64,
 ) -> Result<Reply, OutOfMemory>
     requires { IsTrue (is_originator originator.now) }
-    ensures reply { IfOk result (λ r.
-        r ≡ (told_effect_at Update entity.old originator.now request.now target).reply) }
-    ensures after { OnOk result
-        (entity.new ≡ (told_effect_at Update entity.old originator.now request.now target).after) }
+    ensures gives { ComesTo result entity.new
+        (told_effect_at Update entity.old originator.now request.now target) }
     ensures err { OnErr result (entity.new ≡ entity.old) }
 {
     match plan(alloc, entity, originator, request, target) {

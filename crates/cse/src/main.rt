@@ -7,9 +7,9 @@ use command_words::{Logged, Task, read_command};
 use cse_cli::{run, seed};
 use cse_server::Bench;
 use devices::{Log, LogLevel, StdIn, StdOut, SystemClock, TcpDoor, words};
-use disk_file::{DiskFile, OpenFault};
+use disk_file::{DiskFile, DiskName, NamedDiskFile, OpenFault};
 use journal_opening::first_text;
-use journaled_cli::{JournalWords, journal_words, run_journaled};
+use journaled_cli::{JournalWords, journal_words, run_journaled, run_snapshot, snapshot_words};
 use m2m_io::{Clock as Reads, Sink, Status};
 use std::alloc::{AllocError, Global};
 use std::io::Eprint;
@@ -170,15 +170,47 @@ fn journal_of(
     alloc: Global,
     words: &[&str],
     name: &str,
-) -> Result<DiskFile, Status> {
+) -> Result<NamedDiskFile, Status> {
     match first_of(rt, alloc, words) {
-        Ok(Some(first)) => match DiskFile::open(rt, name, &first) {
+        Ok(Some(first)) => match NamedDiskFile::open(rt, name, &first) {
             Ok(file) => Ok(file),
             Err(OpenFault::OutOfMemory) => Err(Status::Memory),
             Err(fault) => Err(say_shut(rt, alloc, name, fault)),
         },
         Ok(None) => Err(Status::Usage),
         Err(_) => Err(Status::Memory),
+    }
+}
+
+/// The file of this name, and its name; or why not, as a status.
+fn file_there(rt: &HostRuntime, alloc: Global, name: &str) -> Result<(DiskFile, DiskName), Status> {
+    match DiskFile::open_there(rt, name) {
+        Ok(file) => match DiskName::new(rt, name) {
+            Ok(place) => Ok((file, place)),
+            Err(_) => Err(Status::Memory),
+        },
+        Err(OpenFault::OutOfMemory) => Err(Status::Memory),
+        Err(fault) => Err(say_shut(rt, alloc, name, fault)),
+    }
+}
+
+/// Replaces the journal in the file of this name by a snapshot.
+fn replace_journal(rt: &HostRuntime, alloc: Global, words: &[&str], name: &str) -> Status {
+    let mut err = StdOut::new(rt.stderr());
+    match file_there(rt, alloc, name) {
+        Ok((mut file, mut place)) => run_snapshot(
+            alloc,
+            words,
+            name,
+            &mut place,
+            &mut file,
+            seed(rt),
+            &mut err,
+        ),
+        Err(status) => {
+            let _ = status.put_line(&mut err);
+            status
+        }
     }
 }
 
@@ -198,6 +230,18 @@ fn main(rt: HostRuntime) -> ExitCode {
     else {
         return starved();
     };
+    let Ok(snapshot) = snapshot_words(alloc, &texts) else {
+        return starved();
+    };
+    if let Some(
+        JournalWords {
+            file: Some(name),
+            words,
+        },
+    ) = snapshot
+    {
+        return ExitCode::from(replace_journal(&rt, alloc, &words, name));
+    }
     let Ok(said) = parted(alloc, &texts) else {
         return starved();
     };
@@ -238,7 +282,7 @@ fn main(rt: HostRuntime) -> ExitCode {
             return ExitCode::from(status);
         }
     };
-    ExitCode::from(run_journaled(
+    let (status, _) = run_journaled(
         &rt,
         alloc,
         &said.words,
@@ -251,5 +295,6 @@ fn main(rt: HostRuntime) -> ExitCode {
         door,
         &mut first,
         benches,
-    ))
+    );
+    ExitCode::from(status)
 }

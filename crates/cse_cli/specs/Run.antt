@@ -44,8 +44,8 @@ pub record SendsBehind (before after : EntityData) (old new : Outside) (whole st
 abbrev pub EndsAt : Status → EntityData → EntityData → Outside → Outside → Status → Type 0
 EndsAt whole before after old new status = (status ≡ whole) × (after ≡ before) × (new ≡ old)
 
--- What is done behind a connection that ended so: where it was closed, or what was left of it was no
--- message, the items are sent; and else nothing.
+-- What is done behind a connection that ended so: where it was closed, or what was left of it was
+-- no message, the items are sent; and else nothing.
 abbrev pub EndsBehind : Ended → EntityData → EntityData → Outside → Outside → Status → Type 0
 EndsBehind Closed before after old new status = SendsBehind before after old new Done status
 EndsBehind NoFrame before after old new status = SendsBehind before after old new BadStream status

@@ -1,21 +1,17 @@
 //! The command `http`.
 ghost use Rattle.std.specs.Prelude.{◌≡◌, ◌≢◌, ◌↔◌, ◌⊎◌, ◌≤◌, ℕ, IfOk, List, Option};
-ghost use Rattle.turn_desk.specs.Growth.{IsOwnRun};
-ghost use Rattle.cse_server.specs.Connection.{Serves};
 ghost use Rattle.cse_server.specs.Outside.{EndsByFault, SinkTold, link_told, outside};
 ghost use Rattle.cse_server.specs.Outside.{sink_told};
-ghost use Rattle.cse_server.specs.Sending.{SendsItems};
 ghost use Rattle.entity_model.specs.Opening.{opening};
 ghost use Rattle.cse_cli.specs.Run.{EndsBehind, SendsBehind, ServesStreams};
 
-use cse_machine::{Event, Outcome};
-use cse_server::{Bench, Ended, Served, Wire, send_notes, serve_connection};
+use cse_server::{Bench, Ended, Served, Wire, send_alone, serve_alone};
 use entity_model::Entity;
-use m2m_io::{Clock, Connection, Link, Sink, Source, Status};
+use m2m_io::{Clock, Link, Sink, Source, Status};
 use resource_tree::IndexTree;
 use std::alloc::{AllocError as OutOfMemory, Global};
 use tree_model::Home;
-use turn_desk::{Object, OwnDesk, OwnSeat};
+use turn_desk::OwnSeat;
 
 /// The entity with this home, as it opens at a reading of the clock. Its tables hang on the seed.
 pub(crate) fn opened(
@@ -30,58 +26,8 @@ pub(crate) fn opened(
     Ok(Served::new(alloc, entity))
 }
 
-/// Serves one connection at a seat that holds its object.
-fn serve_alone<O, X, C, L>(
-    alloc: Global,
-    seat: &mut OwnSeat<O>,
-    conn: &mut X,
-    clock: &mut C,
-    link: &mut L,
-) -> Ended
-where
-    O: Object<Event = Event, Outcome = Outcome>,
-    X: Connection,
-    C: Clock,
-    L: Link,
-    ensures serves { let old = outside (X.left conn.old)
-        (sink_told (X.written conn.old) (X.puts conn.old)) (C.readings clock.old)
-        (link_told (L.exchanges link.old) (L.faults link.old)) in
-        let new = outside (X.left conn.new)
-        (sink_told (X.written conn.new) (X.puts conn.new)) (C.readings clock.new)
-        (link_told (L.exchanges link.new) (L.faults link.new)) in
-        Serves (IsOwnRun O.step) seat.old seat.new old new result }
-    ensures reads { EndsByFault Ended.ReadFault result
-        (X.Source.faults conn.old) (X.Source.faults conn.new) }
-    ensures writes { EndsByFault Ended.WriteFault result
-        (X.Sink.faults conn.old) (X.Sink.faults conn.new) }
-    ensures holds { (X.kept_by_read conn.new).holds ≡ (X.kept_by_read conn.old).holds }
-{
-    let desk = OwnDesk::new();
-    serve_connection(alloc, &desk, seat, conn, clock, link)
-}
-
-/// Sends the items of an object's outbox, at a seat that holds it.
-fn send_alone<O, C, L>(
-    alloc: Global,
-    seat: &mut OwnSeat<O>,
-    clock: &mut C,
-    link: &mut L,
-) -> Result<u64, OutOfMemory>
-where
-    O: Object<Event = Event, Outcome = Outcome>,
-    C: Clock,
-    L: Link,
-    ensures { SendsItems (IsOwnRun O.step) seat.old seat.new
-        (C.readings clock.old) (C.readings clock.new)
-        (link_told (L.exchanges link.old) (L.faults link.old))
-        (link_told (L.exchanges link.new) (L.faults link.new)) result }
-{
-    let desk = OwnDesk::new();
-    send_notes(alloc, &desk, seat, clock, link)
-}
-
-/// Sends the items of the outbox of the entity at a seat. The status is this one, unless memory runs
-/// out.
+/// Sends the items of the outbox of the entity at a seat. The status is this one, unless memory
+/// runs out.
 fn send_behind<C: Clock, L: Link>(
     alloc: Global,
     seat: &mut OwnSeat<Served<IndexTree>>,

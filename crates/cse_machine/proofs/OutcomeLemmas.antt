@@ -5,7 +5,7 @@ use Rattle.m2m_names.specs.declared.codes.Rsc.{Rsc}
 use Rattle.m2m_names.specs.declared.codes.Rsc.TheVariants.{BadRequest, NotFound, NotReachable}
 use Rattle.m2m_names.specs.declared.codes.Rsc.TheVariants.{Ok as Fine}
 use Rattle.m2m_names.specs.declared.operations.Op.{Op}
-use Rattle.m2m_names.specs.declared.operations.Op.TheVariants.{Retrieve, Notify}
+use Rattle.m2m_names.specs.declared.operations.Op.TheVariants.{Notify}
 use Rattle.primitive_json.specs.declared.note.NoteParts.{NoteParts}
 use Rattle.primitive_json.specs.declared.reply.ReplyParts.{ReplyParts}
 use Rattle.primitive_json.specs.declared.request.RequestParts.{RequestParts}
@@ -17,7 +17,6 @@ use Rattle.addressing.specs.declared.addr.AddrFault.{AddrFault}
 use Rattle.addressing.specs.declared.spot.Spot.TheVariants.{Poll}
 use Rattle.entity_model.specs.Entity.{EntityData, swept}
 use Rattle.entity_model.specs.Places.{Effect, first_fault, refused, reply_alone, reply_to}
-use Rattle.retrieve_discover.specs.Polling.{polled}
 use Rattle.cse_machine.specs.declared.event.Event.{Event}
 use Rattle.cse_machine.specs.declared.event.Event.TheVariants.{Ask, Take, Tick}
 use Rattle.cse_machine.specs.declared.event.Outcome.{Outcome}
@@ -41,11 +40,6 @@ poll_there e request channel is = rw is refl
 
 pub poll_absent : (e : EntityData) (request : RequestParts) (channel : ℕ) → has channel e.nodes ≡ false → spot_effect e request (Some (Poll channel)) ≡ refused e request NotFound
 poll_absent e request channel none = rw none refl
-
-pub polled_by_retrieve : (e : EntityData) (request : RequestParts) (o : List ℕ) (channel : ℕ) → claimed_originator e.home request ≡ o → request.op ≡ Retrieve → poll_effect request.op e request channel ≡ polled e o request channel
-polled_by_retrieve e request o channel by is =
-    ap (λ (p : Op). poll_effect p e request channel) is
-    ∙ ap (λ (t : List ℕ). polled e t request channel) by
 
 pub polled_by : (op : Op) (e : EntityData) (request : RequestParts) (channel : ℕ) → request.op ≡ op → poll_effect request.op e request channel ≡ poll_effect op e request channel
 polled_by op e request channel is = ap (λ (p : Op). poll_effect p e request channel) is

@@ -1,22 +1,24 @@
 -- What comes of a request by where it goes.
-use Rattle.std.proofs.Common.{◌≡◌, ℕ, List, Bool, true, false, Option, Some, None, is_some, Result, Ok, Err, OnOk, refl, sym, ap, ◌∙◌}
+use Rattle.std.proofs.Common.{◌≡◌, ℕ, List, Bool, true, false, Option, Some, None, is_some, Result, Ok, Err, IfOk, OnOk, refl, sym, ap, subst, ◌∙◌}
 use Rattle.std.specs.Prelude.{if◌then◌else◌}
 use Rattle.std.specs.Option.{option_map_or}
+use Rattle.m2m_names.specs.declared.codes.Rsc.{Rsc}
 use Rattle.primitive_json.specs.declared.request.RequestParts.{RequestParts}
 use Rattle.resource_model.specs.Resource.{ResourceData}
-use Rattle.addressing.specs.Addresses.{address_of}
-use Rattle.addressing.specs.Laws.{named_here, spot_named}
+use Rattle.addressing.specs.Laws.{named_here}
 use Rattle.addressing.specs.Names.{segments_of, spot_of}
 use Rattle.addressing.specs.declared.addr.Addr.{Addr}
 use Rattle.addressing.specs.declared.addr.Addr.TheVariants.{Local, Foreign, OtherProvider}
-use Rattle.addressing.specs.declared.addr.AddrFault.{AddrFault}
 use Rattle.subscription_match.specs.Destinations.{cse_named, first_url}
 use Rattle.entity_model.specs.Entity.{EntityData}
+use Rattle.entity_model.specs.Places.{refusal, refused}
 use Rattle.group_fanout.specs.Rights.{claimed_originator}
 use Rattle.retarget.specs.Routes.{comes_from_cse, routed, routed_to}
 use Rattle.retarget.specs.declared.routing.Route.{Route}
 use Rattle.retarget.specs.declared.routing.Route.TheVariants as to
-use Rattle.cse_machine.specs.Answer.{EventEffect, address_effect, as_done, onward_effect, point_of, route_effect, spot_effect}
+use Rattle.cse_machine.specs.Answer.{ComesToOutcome, EventEffect, address_effect, as_done, onward_effect, point_of, route_effect, spot_effect}
+use Rattle.cse_machine.specs.declared.event.Outcome.{Outcome}
+use Rattle.cse_machine.specs.declared.event.Outcome.TheVariants.{Done}
 
 -- what it gives is what its route gives
 pub by_route : (e : EntityData) (request : RequestParts) (o : List ℕ) (addr : Addr) (route : Route) → claimed_originator e.home request ≡ o → route ≡ routed e.nodes o addr → address_effect e request (Ok addr) ≡ route_effect e request (segments_of addr) route
@@ -50,10 +52,6 @@ stays_here e request o addr route by is local =
     ∙ ap (route_effect e request (segments_of addr)) local
     ∙ ap (λ spot. as_done (spot_effect e request spot)) (names_here e.nodes o addr (sym is ∙ local))
 
--- what the address of a request names is what that names
-pub spot_read : (e : EntityData) (request : RequestParts) (addr : Addr) → address_of e.home request.to ≡ Ok addr → named_here (Ok addr) e.nodes ≡ spot_named e.home request.to e.nodes
-spot_read e request addr is = sym (ap (λ (a : Result Addr AddrFault). named_here a e.nodes) is)
-
 -- what goes on leaves the entity as it is
 onward_stays : (e : EntityData) (request : RequestParts) (poa : Option (List ℕ)) → (onward_effect e request poa).after ≡ e
 onward_stays e request None = refl
@@ -68,3 +66,9 @@ goes_stays e request o addr n by is =
 pub on_ok : {A E : Type 0} (result : Result A E) (e after : EntityData) → e ≡ after → OnOk result (e ≡ after)
 on_ok (Ok x) e after same = same
 on_ok (Err fault) e after same = tt
+
+-- what isn't known, or isn't reached, is refused
+pub turned_down : {E : Type 0} (result : Result Outcome E) (e : EntityData) (request : RequestParts) (o : List ℕ) (addr : Addr) (route : Route) (fault : Rsc) → claimed_originator e.home request ≡ o → route ≡ routed e.nodes o addr → route_effect e request (segments_of addr) route ≡ as_done (refused e request fault) → IfOk result (λ x. x ≡ Done (refusal request fault)) → ComesToOutcome result e (address_effect e request (Ok addr))
+turned_down result e request o addr route fault by is down told =
+    subst (ComesToOutcome result e) (sym (by_route e request o addr route by is ∙ down))
+    (record { outcome = told; after = on_ok result e e refl })

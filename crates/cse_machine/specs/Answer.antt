@@ -2,7 +2,7 @@
 use Rattle.std.specs.Prelude.{◌≡◌, ℕ, nat_lt, Bool, true, false, not, ◌&&◌, List, [], ◌∷◌}
 use Rattle.std.specs.Prelude.{Option, Some, None, Result, Ok, Err, is_ok, is_some}
 use Rattle.std.specs.Prelude.{bytes_eq, codes, option_and_then}
-use Rattle.std.specs.Prelude.{if◌then◌else◌}
+use Rattle.std.specs.Prelude.{IfOk, OnOk, if◌then◌else◌}
 use Rattle.std.specs.Option.{option_map_or}
 use Rattle.std.specs.Ordering.{int_eq}
 use Rattle.m2m_names.specs.declared.codes.Rsc.TheVariants.{BadRequest, Internal, NonBlocking}
@@ -59,8 +59,8 @@ starved request = refusal request Internal
 
 -- ---- which requests are served
 
--- the types of which a resource may be created so far, one line each: no announced one; that nothing
--- takes a CSEBase is judged later
+-- the types of which a resource may be created so far, one line each: no announced one; that
+-- nothing takes a CSEBase is judged later
 abbrev pub is_creatable : Ty → Bool
 is_creatable AccessControlPolicy = true
 is_creatable Ae = true
@@ -169,8 +169,8 @@ abbrev pub poll_refusal : EntityData → RequestParts → ℕ → Effect
 poll_refusal e request channel =
     refused e request (if has_right e request channel then NotAllowed else NoPrivilege)
 
--- The content of the request is the answer to a request that was polled: an object whose only member
--- is a response (TS-0001, 9.6.22).
+-- The content of the request is the answer to a request that was polled: an object whose only
+-- member is a response (TS-0001, 9.6.22).
 abbrev pub has_answer : RequestParts → Bool
 has_answer request =
     option_map_or (λ e. bytes_eq e.0 (codes "m2m:rsp")) (option_and_then sole request.pc) false
@@ -213,6 +213,12 @@ pub record EventEffect : Type 0 where
   pub outcome : Outcome
   pub after : EntityData
 
+-- This comes of an event, unless memory runs out: the outcome, and the entity that is left.
+pub record ComesToOutcome {E : Type 0} (result : Result Outcome E) (left : EntityData)
+    (effect : EventEffect) : Type 0 where
+  pub outcome : IfOk result (λ x. x ≡ effect.outcome)
+  pub after : OnOk result (left ≡ effect.after)
+
 -- The effect of an operation as that of an event: its outcome is a reply.
 abbrev pub as_done : Effect → EventEffect
 as_done effect = record { outcome = Done effect.reply; after = effect.after }
@@ -234,8 +240,8 @@ abbrev pub onward_effect : EntityData → RequestParts → Option (List ℕ) →
 onward_effect e request poa =
     option_map_or (goes_on e request) poa (as_done (refused e request NotReachable))
 
--- what a request gives by where it goes, which is judged before anything is looked up here: it stays
--- here; it goes on to a registered CSE; or that isn't known, or isn't reached
+-- what a request gives by where it goes, which is judged before anything is looked up here: it
+-- stays here; it goes on to a registered CSE; or that isn't known, or isn't reached
 abbrev pub route_effect : EntityData → RequestParts → List (List ℕ) → Route → EventEffect
 route_effect e request segments to.Local =
     as_done (spot_effect e request (spot_of segments e.nodes))

@@ -8,16 +8,15 @@
 //! that look for it: as items of the outbox, those of the expiry first.
 //!
 //! Every request may be asked. Those that aren't served yet (`is_served` of `specs/Answer`) are
-//! answered as malformed: the creation of an announced resource. A Notify to an AE is handed on by an
-//! item of the outbox. A Retrieve of a poll point gives the first item that
-//! waits for its channel, which is then taken; a Notify to it is the answer of who polled, and isn't
-//! kept. A request to a fan-out point is done on each member of its group, by the crate
-//! group_fanout; where memory runs out in that, the outcome says how many members are done. A
-//! request to another CSE goes on to it where the crate retarget knows a way: the outcome is where
-//! it goes and what is sent there, and no right is judged here. A content that asks for copies isn't
-//! admitted yet.
+//! answered as malformed: the creation of an announced resource. A Notify to an AE is handed on by
+//! an item of the outbox. A Retrieve of a poll point gives the first item that waits for its
+//! channel, which is then taken; a Notify to it is the answer of who polled, and isn't kept. A
+//! request to a fan-out point is done on each member of its group, by the crate group_fanout; where
+//! memory runs out in that, the outcome says how many members are done. A request to another CSE
+//! goes on to it where the crate retarget knows a way: the outcome is where it goes and what is
+//! sent there, and no right is judged here. A content that asks for copies isn't admitted yet.
 //!
-//! The laws of these definitions stand in machine_laws.
+//! The laws of these definitions stand in guard_laws and machine_laws.
 //!
 //! ```text
 //! match step(alloc, entity, 1_700_000_000, &Event::Ask(request)) {

@@ -1,5 +1,5 @@
 //! One event after another.
-ghost use Rattle.std.specs.Prelude.{◌≡◌, IfOk, IfSome, IsTrue, Ok, OnErr, OnOk, Some, option_map};
+ghost use Rattle.std.specs.Prelude.{◌≡◌, IfOk, IfSome, IsTrue, Ok, OnErr, Some, option_map};
 ghost use Rattle.std.specs.Prelude.{drop, option_and_then, IfErr};
 ghost use Rattle.m2m_names.specs.Name.{is_originator};
 ghost use Rattle.tree_model.specs.Tree.{has};
@@ -8,7 +8,7 @@ ghost use Rattle.addressing.specs.Laws.{spot_named};
 ghost use Rattle.addressing.specs.Names.{segments_of};
 ghost use Rattle.addressing.specs.Short.{short_of};
 ghost use Rattle.addressing.specs.declared.spot.Spot.TheVariants.{Poll};
-ghost use Rattle.entity_model.specs.Places.{first_fault, refusal};
+ghost use Rattle.entity_model.specs.Places.{ComesTo, first_fault, refusal};
 ghost use Rattle.request_rules.specs.Judged.{Judges};
 ghost use Rattle.cse_machine.specs.Answer.{address_effect, address_places, answered_poll};
 ghost use Rattle.primitive_json.specs.Notes.{IsSomeUrl};
@@ -16,7 +16,7 @@ ghost use Rattle.group_fanout.specs.Fan.{IsCutShortAt, fan_effect_at, fanned_at,
 ghost use Rattle.group_fanout.specs.Fan.{served_members};
 ghost use Rattle.group_fanout.specs.Rights.{claimed_originator};
 ghost use Rattle.group_fanout.specs.Rights as rights;
-ghost use Rattle.cse_machine.specs.Answer.{effect_of, first_places};
+ghost use Rattle.cse_machine.specs.Answer.{ComesToOutcome, effect_of, first_places};
 ghost use Rattle.cse_machine.specs.Answer.{goes_on, onward_effect, point_of, poll_effect};
 ghost use Rattle.cse_machine.specs.Answer.{poll_refusal, spot_effect};
 ghost use Rattle.cse_machine.specs.Answer as spec;
@@ -80,8 +80,7 @@ fn answer<T: Tree>(
     entity: &mut Entity<T>,
     request: &Request,
 ) -> Result<Outcome, Starved>
-    ensures outcome { IfOk result (λ x. x ≡ (effect_of entity.old request.now).outcome) }
-    ensures after { OnOk result (entity.new ≡ (effect_of entity.old request.now).after) }
+    ensures gives { ComesToOutcome result entity.new (effect_of entity.old request.now) }
     ensures cut { IfErr result (λ s. IsCutShortAt entity.old
         (heard_members entity.old request.now) s.done entity.new) }
 {
@@ -181,10 +180,8 @@ fn lead<T: Tree>(
     requires originator { IsTrue (is_originator originator.now) }
     requires claimed { claimed_originator entity.old.home request.now ≡ originator.now }
     requires addressed { address_of entity.old.home request.now.to ≡ Ok addr.now }
-    ensures outcome { IfOk result (λ x. x
-        ≡ (address_effect entity.old request.now (Ok addr.now)).outcome) }
-    ensures after { OnOk result (entity.new
-        ≡ (address_effect entity.old request.now (Ok addr.now)).after) }
+    ensures gives { ComesToOutcome result entity.new
+        (address_effect entity.old request.now (Ok addr.now)) }
     ensures cut { IfErr result (λ s. IsCutShortAt entity.old (served_members entity.old request.now
         (spot_named entity.old.home request.now.to entity.old.nodes)) s.done entity.new) }
 {
@@ -263,8 +260,7 @@ fn reach<T: Tree>(
     requires claimed { claimed_originator entity.old.home request.now ≡ originator.now }
     requires addressed { address_of entity.old.home request.now.to ≡ Ok addr.now }
     requires named { spot ≡ spot_named entity.old.home request.now.to entity.old.nodes }
-    ensures reply { IfOk result (λ r. r ≡ (spot_effect entity.old request.now spot).reply) }
-    ensures after { OnOk result (entity.new ≡ (spot_effect entity.old request.now spot).after) }
+    ensures gives { ComesTo result entity.new (spot_effect entity.old request.now spot) }
     ensures cut { IfErr result (λ s.
         IsCutShortAt entity.old (served_members entity.old request.now spot) s.done entity.new) }
 {
@@ -295,10 +291,8 @@ fn reach_members<T: Tree>(
     requires originator { IsTrue (is_originator originator.now) }
     requires claimed { claimed_originator entity.old.home request.now ≡ originator.now }
     requires addressed { address_of entity.old.home request.now.to ≡ Ok addr.now }
-    ensures reply { IfOk result (λ r. r ≡ (fan_effect_at entity.old request.now
-        (rest_of entity.old.home request.now.to place) group).reply) }
-    ensures after { OnOk result (entity.new ≡ (fan_effect_at entity.old request.now
-        (rest_of entity.old.home request.now.to place) group).after) }
+    ensures gives { ComesTo result entity.new (fan_effect_at entity.old request.now
+        (rest_of entity.old.home request.now.to place) group) }
     ensures cut { IfErr result (λ s. IsCutShortAt entity.old (fanned_at entity.old request.now
         (rest_of entity.old.home request.now.to place) group) s.done entity.new) }
 {
@@ -336,10 +330,8 @@ fn reach_poll<T: Tree>(
 ) -> Result<Reply, OutOfMemory>
     requires originator { IsTrue (is_originator originator.now) }
     requires claimed { claimed_originator entity.old.home request.now ≡ originator.now }
-    ensures reply { IfOk result (λ r. r
-        ≡ (spot_effect entity.old request.now (Some (Poll channel))).reply) }
-    ensures after { OnOk result (entity.new
-        ≡ (spot_effect entity.old request.now (Some (Poll channel))).after) }
+    ensures gives { ComesTo result entity.new
+        (spot_effect entity.old request.now (Some (Poll channel))) }
     ensures err { OnErr result (entity.new ≡ entity.old) }
 {
     if is_there(entity, channel) {
@@ -360,10 +352,8 @@ fn operate_poll<T: Tree>(
     requires originator { IsTrue (is_originator originator.now) }
     requires claimed { claimed_originator entity.old.home request.now ≡ originator.now }
     requires resource { IsTrue (has channel entity.old.nodes) }
-    ensures reply { IfOk result (λ r. r
-        ≡ (poll_effect request.now.op entity.old request.now channel).reply) }
-    ensures after { OnOk result (entity.new
-        ≡ (poll_effect request.now.op entity.old request.now channel).after) }
+    ensures gives { ComesTo result entity.new
+        (poll_effect request.now.op entity.old request.now channel) }
     ensures err { OnErr result (entity.new ≡ entity.old) }
 {
     match request.parts().op {

@@ -64,8 +64,8 @@ SeatGrows before more after = Grows (known_to before) more (known_to after)
 
 -- ---- items
 
--- By one call of `send_notes` the items that waited in an outbox were taken at a seat and sent, with
--- what lies at a bench, and this came of it.
+-- By one call of `send_notes` the items that waited in an outbox were taken at a seat and sent,
+-- with what lies at a bench, and this came of it.
 pub record SendsFrom {S C L : Type 0} (grown : S → List (Marked Event Outcome) → S → Type 0)
     (clock : C → Option (List ℕ)) (link : L → LinkTold)
     (before : S) (bench : Bench C L) (after : S) (left : Bench C L) : Type 0 where

@@ -8,18 +8,20 @@
 //! (`specs/Replies`), and why the connection ended (`specs/Connection`). Who hands `serve` a door
 //! and benches sees that the seat which comes back has gained what attending to connections gave
 //! (`specs/Attending`), and why the door gave no more (workers/specs). `Served` is an entity as an
-//! object of a desk, whose steps are those of the machine. A bench is what each worker of a server
-//! is handed, and a `Wire` makes one connection of two streams that were lent.
+//! object of a desk, whose steps are those of the machine. `serve_alone` and `send_alone` are for
+//! an object that nobody else asks. A bench is what each worker of a server is handed, and a `Wire`
+//! makes one connection of two streams that were lent.
 //!
 //! The laws on what a connection shows, changes and is answered stand in service_laws.
 //!
 //! ```text
-//! let (desk, mut seat) = (OwnDesk::new(), OwnSeat::new(Served::new(alloc, entity)));
+//! let mut seat = OwnSeat::new(Served::new(alloc, entity));
 //! let mut conn = Wire::new(input, out);
-//! serve_connection(alloc, &desk, &mut seat, &mut conn, clock, link)
+//! serve_alone(alloc, &mut seat, &mut conn, clock, link)
 //! ```
 #![tactic(auto)]
 
+mod alone;
 mod bench;
 mod closing;
 mod connection;
@@ -29,11 +31,12 @@ mod served;
 mod serving;
 mod wire;
 
+pub use alone::{send_alone, serve_alone};
 pub use bench::Bench;
 pub use closing::MOST_FRAMES;
 pub use connection::{Ended, serve_connection};
 pub use replying::{bare_reply, reply_onward};
-pub use sending::{MOST_ITEMS, send_notes};
+pub use sending::{MOST_ITEMS, send_notes, send_to};
 pub use served::Served;
 pub use serving::serve;
 pub use wire::Wire;

@@ -40,8 +40,10 @@ fn exchange_once<L: Link>(
     }
 }
 
-/// Sends an item where it is to go: over the link, where that is a URL.
-fn send_to<L: Link>(alloc: Global, link: &mut L, note: &Note) -> Result<(), OutOfMemory>
+/// Sends an item where it is to go: over the link to the host of its URL, once, whatever is
+/// answered. One for a polling channel that is gone, or for what can't be reached, is let go. Where
+/// memory runs out, nothing was sent.
+pub fn send_to<L: Link>(alloc: Global, link: &mut L, note: &Note) -> Result<(), OutOfMemory>
     ensures ok { OnOk result ((answer : Option (List ℕ))
         × Carries (carried_for note.now.dest note.now.request answer)
         (link_told (L.exchanges link.old) (L.faults link.old))
@@ -93,10 +95,10 @@ where
 /// says how many were sent.
 ///
 /// Each that goes to a URL is exchanged with its host once, whatever is answered. One for a polling
-/// channel that is gone, or for what can't be reached, is let go. Each is taken by a question of its
-/// own at the desk, at a reading of the clock, and nothing is sent within one. Where memory runs out
-/// in a question, all items before it were sent; where it does in sending an item, all before that
-/// one were.
+/// channel that is gone, or for what can't be reached, is let go. Each is taken by a question of
+/// its own at the desk, at a reading of the clock, and nothing is sent within one. Where memory
+/// runs out in a question, all items before it were sent; where it does in sending an item, all
+/// before that one were.
 pub fn send_notes<D, C, L>(
     alloc: Global,
     desk: &D,

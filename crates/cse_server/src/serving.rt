@@ -92,8 +92,8 @@ where
         self.signal
     }
 
-    // Where memory runs out in sending an item, that item is let go, and what stands behind it in the
-    // outbox waits for the next round. Where it runs out in taking one, that one waits as well.
+    // Where memory runs out in sending an item, that item is let go, and what stands behind it in
+    // the outbox waits for the next round. Where it runs out in taking one, that one waits as well.
     fn run(&self, desk: &K, seat: &mut K::Seat, bench: &mut Bench<C, L>) {
         let Bench { clock, link } = bench;
         let _ = send_notes(self.alloc, desk, seat, clock, link);

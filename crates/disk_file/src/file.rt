@@ -1,11 +1,12 @@
 //! A file of the system.
-ghost use Rattle.std.specs.Prelude.{[], ⊤};
+ghost use Rattle.std.specs.Prelude.{◌≡◌, [], ⊤, IsErr};
 ghost use Rattle.m2m_io.specs.Counts.{CountsFaults};
 
 use crate::OpenFault;
-use crate::opening::{is_absent, make, open_there};
+use crate::opening::{is_absent, make, make_like, open_there, place, sync_name};
 use crate::operator::Operator;
 use kept_file::{Failed, FileFault, KeptFile};
+use kept_name::KeptName;
 use std::alloc::{AllocError, Global};
 use std::fs::File;
 use std::io;
@@ -36,21 +37,36 @@ impl DiskFile {
         })
     }
 
-    /// Puts a file with these bytes in the place of the one that has the name, which `self` is. A
-    /// crash leaves one of the two.
-    pub fn replace(
-        self,
-        rt: &HostRuntime,
-        path: &str,
-        bytes: &[u8],
-    ) -> Result<DiskFile, OpenFault> {
+    /// Opens the file that has a name.
+    pub fn open_there(rt: &HostRuntime, path: &str) -> Result<DiskFile, OpenFault> {
         let operator = Operator::new(rt, path)?;
-        let file = make(rt, path, bytes)?;
+        let file = open_there(rt, path)?;
         Ok(DiskFile {
             file,
-            faults: self.faults,
+            faults: 0,
             operator,
         })
+    }
+
+    /// Counts a fault.
+    pub(crate) fn fail(&mut self) -> Result<(), Failed>
+        ensures never { IsErr result }
+        ensures faults { CountsFaults result self.old.faults self.new.faults }
+    {
+        self.faults = self.faults.saturating_add(1);
+        Err(Failed)
+    }
+
+    /// Is another file from now on, with the count of the faults so far.
+    pub(crate) fn go_on_as(&mut self, other: DiskFile)
+        ensures { self.new.faults ≡ self.old.faults }
+    {
+        let DiskFile {
+            file,
+            faults: _,
+            operator: _,
+        } = other;
+        self.file = file;
     }
 
     /// What a call of the system did; an error counts as a fault, and is told.
@@ -116,6 +132,87 @@ impl KeptFile for DiskFile {
 
     fn sync(&mut self) -> Result<(), Failed> {
         let done = self.file.sync_data();
+        self.counted(done)
+    }
+}
+
+/// The name of a file of the system, in whose place another one can be put. Each error of the
+/// system is a fault, and is told on standard error.
+#[derive(Drop)]
+pub struct DiskName {
+    rt: HostRuntime,
+    path: String,
+    faults: u64,
+    operator: Operator,
+}
+
+/// Makes a file without a byte beside the one that has a name, with the owner and the rights of
+/// that one.
+fn blank_beside(rt: &HostRuntime, path: &str) -> Result<DiskFile, OpenFault> {
+    let operator = Operator::new(rt, path)?;
+    let file = make_like(rt, path)?;
+    Ok(DiskFile {
+        file,
+        faults: 0,
+        operator,
+    })
+}
+
+impl DiskName {
+    /// This name.
+    pub fn new(rt: &HostRuntime, path: &str) -> Result<DiskName, AllocError> {
+        Ok(DiskName {
+            rt: *rt,
+            path: String::from_str(rt.alloc(), path)?,
+            faults: 0,
+            operator: Operator::new(rt, path)?,
+        })
+    }
+
+    /// What was done; what wasn't counts as a fault, and an error of the system is told.
+    fn counted<T>(&mut self, done: Result<T, OpenFault>) -> Result<T, Failed>
+        ensures { CountsFaults result self.old.faults self.new.faults }
+    {
+        match done {
+            Ok(done) => Ok(done),
+            Err(fault) => {
+                if let OpenFault::System(error) = fault {
+                    self.operator.tell(error);
+                }
+                self.faults = self.faults.saturating_add(1);
+                Err(Failed)
+            }
+        }
+    }
+}
+
+impl KeptName<DiskFile> for DiskName {
+    ghost tells = { ⊥ };
+
+    ghost seen = { λ _. [] };
+
+    ghost may_leave = { λ _ _. ⊤ };
+
+    ghost moment = { λ _. 0 };
+
+    ghost left_since = { λ _ _ _. ⊤ };
+
+    ghost faults = { λ f. f.faults };
+
+    ghost only_now = { λ none. absurd none };
+
+    fn make(&mut self) -> Result<DiskFile, Failed> {
+        let done = blank_beside(&self.rt, self.path.as_str());
+        self.counted(done)
+    }
+
+    fn give(&mut self, _: &DiskFile) -> Result<(), Failed> {
+        let done = place(&self.rt, self.path.as_str());
+        self.counted(done)
+    }
+
+    fn sync(&mut self) -> Result<(), Failed> {
+        let done = sync_name(&self.rt, self.path.as_str());
         self.counted(done)
     }
 }

@@ -4,7 +4,9 @@
 //! what is read of it is what stands on the disk: it syncs the file and its folder, and has the
 //! system drop the pages that it holds of it. Where there is no file of that name, it makes one
 //! with the bytes that it is given, under another name first, so that a crash leaves none or a
-//! whole one. `DiskFile::replace` puts such a file in the place of one that is there.
+//! whole one. A `DiskName` is the name of such a file, in whose place the crate kept_name puts
+//! another one, which gets the owner and the rights of the old one. A `NamedDiskFile` is a file
+//! with its name.
 //!
 //! Where the system gives an error, it is told on standard error what the error is, as contracts
 //! have no more of it than that the file failed.
@@ -23,8 +25,10 @@
 
 mod fault;
 mod file;
+mod named;
 mod opening;
 mod operator;
 
 pub use fault::OpenFault;
-pub use file::DiskFile;
+pub use file::{DiskFile, DiskName};
+pub use named::NamedDiskFile;

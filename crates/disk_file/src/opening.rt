@@ -1,8 +1,9 @@
 //! How a file is opened.
 use crate::OpenFault;
+use std::alloc::AllocError;
 use std::fs::{File, OpenOptions, TryLockError};
 use std::os::fd::AsRawFd;
-use std::os::unix::fs::{FileExt, MetadataExt};
+use std::os::unix::fs::{FileExt, MetadataExt, fchown};
 use std::{fs, io};
 
 /// The last descriptor of the standard streams.
@@ -71,24 +72,61 @@ pub(crate) fn open_there(rt: &HostRuntime, path: &str) -> Result<File, OpenFault
     Ok(file)
 }
 
-/// Makes a file with these bytes under the name that it has until it is whole, with a lock.
-fn make_beside(rt: &HostRuntime, beside: &str, bytes: &[u8]) -> Result<File, OpenFault> {
-    let file = open_plain(rt, beside, true)?;
+/// The name that a file has until it is whole.
+fn beside(rt: &HostRuntime, path: &str) -> Result<String, AllocError> {
+    format!(in rt.alloc(); "{path}.new")
+}
+
+/// Makes a file without a byte beside the one that has a name, if any has it, with a lock.
+fn make_beside(rt: &HostRuntime, path: &str) -> Result<File, OpenFault> {
+    let beside = beside(rt, path)?;
+    let file = open_plain(rt, beside.as_str(), true)?;
     lock(&file)?;
-    if !is_named(rt, &file, beside)? {
+    if !is_named(rt, &file, beside.as_str())? {
         return Err(OpenFault::NoPlainFile);
     }
     file.set_len(0)?;
-    file.write_all_at(bytes, 0)?;
-    file.sync_all()?;
     Ok(file)
 }
 
-/// Makes a file with these bytes in the place of one that has the name, if any has it.
-pub(crate) fn make(rt: &HostRuntime, path: &str, bytes: &[u8]) -> Result<File, OpenFault> {
-    let beside = format!(in rt.alloc(); "{path}.new")?;
-    let file = make_beside(rt, beside.as_str(), bytes)?;
+/// Gives a file the owner and the rights of the one that has a name.
+fn take_rights(rt: &HostRuntime, file: &File, path: &str) -> io::Result<()> {
+    let named = fs::symlink_metadata(rt, path)?;
+    fchown(file, Some(named.uid()), Some(named.gid()))?;
+    file.set_permissions(named.permissions())
+}
+
+/// Makes a file without a byte beside the one that has a name, with a lock, and with the owner and
+/// the rights of that one.
+pub(crate) fn make_like(rt: &HostRuntime, path: &str) -> Result<File, OpenFault> {
+    let file = make_beside(rt, path)?;
+    take_rights(rt, &file, path)?;
+    Ok(file)
+}
+
+/// Gives the name to the file that was made beside the one that has it, if any has it.
+pub(crate) fn place(rt: &HostRuntime, path: &str) -> Result<(), OpenFault> {
+    let beside = beside(rt, path)?;
     fs::rename(rt, beside.as_str(), path)?;
+    Ok(())
+}
+
+/// Has a crash leave from then on the file that has the name.
+pub(crate) fn sync_name(rt: &HostRuntime, path: &str) -> Result<(), OpenFault> {
+    sync_folder(rt, path)?;
+    Ok(())
+}
+
+/// Makes a file with these bytes, where nothing has the name. Who makes one has the lock on the
+/// file beside it; so another program that made one meanwhile is seen.
+pub(crate) fn make(rt: &HostRuntime, path: &str, bytes: &[u8]) -> Result<File, OpenFault> {
+    let file = make_beside(rt, path)?;
+    if !is_absent(rt, path)? {
+        return Err(OpenFault::Busy);
+    }
+    file.write_all_at(bytes, 0)?;
+    file.sync_all()?;
+    place(rt, path)?;
     settle(rt, &file, path)?;
     Ok(file)
 }

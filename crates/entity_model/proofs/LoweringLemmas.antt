@@ -1,8 +1,7 @@
 -- Subscriptions that are lowered one after another are those that what was told lowers.
 use Rattle.std.specs.Prelude.{◌==◌, nat_eq}
 use Rattle.std.proofs.Common.{◌≡◌, ℕ, ◌-◌, ◌<◌, ◌≤◌, List, [], ◌∷◌, ◌++◌, map, Bool, true, false, cond, not, ◌&&◌, ◌||◌, Option, Some, None, option_map, is_some, inl, inr, refl, sym, ap, ◌∙◌, subst, arith}
-use Rattle.std.proofs.lemmas.Bool.{cases_Bool, both_ways, eq-eqb, eqb-true, lt-ltb, ne_eqb, or_parts}
-use Rattle.std.proofs.lemmas.Bool.Decides.{nat_tests}
+use Rattle.std.proofs.lemmas.Bool.{cases_Bool, cond_both, both_ways, eq-eqb, eqb-true, lt-ltb, ne_eqb, or_parts}
 use Rattle.std.specs.List.{list_any, AllByRecursion}
 use Rattle.std.specs.List.Sorted.{IsStrictlySortedBy}
 use Rattle.std.specs.Map.{keys_of}
@@ -25,6 +24,7 @@ use Rattle.tree_model.proofs.RecountLemmas.{tree_recounted}
 use Rattle.tree_model.proofs.TreeLemmas.{at_has, at_number, staying-map, staying_unpicked}
 use Rattle.notify_outbox.proofs.OrderLemmas.{each_weaker}
 use Rattle.entity_model.proofs.RemovalLemmas.{without_twice}
+use Rattle.entity_model.proofs.SpentLemmas.{not_none}
 use Rattle.entity_model.specs.Telling.{all_lowered_to, has_more, lowered_to, LeavesWhoIsTold}
 
 -- ---- a subscription that has more left
@@ -155,6 +155,14 @@ only_number n left r = elim (cases_Bool (has_number n r)) [ inl t ↦ rw t refl 
 only_parent : (n left : ℕ) (r : ResourceData) → (only n left r).parent ≡ r.parent
 only_parent n left r = elim (cases_Bool (has_number n r)) [ inl t ↦ rw t refl | inr f ↦ rw f refl ]
 
+-- a step: the one at a number that counts more than is left to it goes, where none is left, or has
+-- so many left; and every other stays as it is
+by_lowering : (P : List ResourceData → Type 0) (n left : ℕ) (nodes : List ResourceData) → (has_more left (left_at nodes n) ≡ true → (left == 0) ≡ true → P (without (has_number n) nodes)) → (has_more left (left_at nodes n) ≡ true → (left == 0) ≡ false → P (recounted_at n left nodes)) → (has_more left (left_at nodes n) ≡ false → P nodes) → P (lowered_to n left nodes)
+by_lowering P n left nodes gone lowered none =
+    cond_both (has_more left (left_at nodes n)) _ nodes P
+    (λ t. cond_both (left == 0) (without (has_number n) nodes) (recounted_at n left nodes) P (gone t) (lowered t))
+    none
+
 -- one number more
 module _ (n left : ℕ) (h later : ℕ → Option ℕ) (own : h n ≡ Some left) (gone : later n ≡ None) (others : (m : ℕ) → nat_eq m n ≡ false → h m ≡ later m) (nodes : List ResourceData) (order : ascend nodes ≡ true) where
   is_own : (r : ResourceData) → has_number n r ≡ true → left_by h r ≡ by_more (Some left) (left_to r)
@@ -218,22 +226,7 @@ module _ (n left : ℕ) (h later : ℕ → Option ℕ) (own : h n ≡ Some left)
       ]
 
   one_lowered : nodes_by (left_by h) nodes ≡ nodes_by (left_by later) (lowered_to n left nodes)
-  one_lowered = elim (cases_Bool (has_more left (left_at nodes n))) [
-    | inl t ↦ elim (cases_Bool (left == 0)) [
-      | inl z ↦ as_gone t z ∙ sym (ap (nodes_by (left_by later)) (lowered_gone t z))
-      | inr s ↦ as_lowered t s ∙ sym (ap (nodes_by (left_by later)) (lowered_so t s))
-    ]
-    | inr f ↦ as_before f ∙ sym (ap (nodes_by (left_by later)) (lowered_none f))
-  ]
-    where
-      lowered_gone : has_more left (left_at nodes n) ≡ true → (left == 0) ≡ true → lowered_to n left nodes ≡ without (has_number n) nodes
-      lowered_gone t z = rw (t, z) refl
-
-      lowered_so : has_more left (left_at nodes n) ≡ true → (left == 0) ≡ false → lowered_to n left nodes ≡ recounted_at n left nodes
-      lowered_so t s = rw (t, s) refl
-
-      lowered_none : has_more left (left_at nodes n) ≡ false → lowered_to n left nodes ≡ nodes
-      lowered_none f = rw f refl
+  one_lowered = by_lowering (λ (rs : List ResourceData). nodes_by (left_by h) nodes ≡ nodes_by (left_by later) rs) n left nodes as_gone as_lowered as_before
 
 -- ---- all of them
 
@@ -254,13 +247,11 @@ once_sorted (row ∷ rows) sorted = (lookup_above row.0 rows sorted.0, once_sort
 
 -- a step leaves a tree
 tree_lowered : (n left : ℕ) (nodes : List ResourceData) → is_tree nodes ≡ true → is_tree (lowered_to n left nodes) ≡ true
-tree_lowered n left nodes tree = elim (cases_Bool (has_more left (left_at nodes n))) [
-  | inl t ↦ elim (cases_Bool (left == 0)) [
-    | inl z ↦ rw (t, z) (is_tree-without (has_number n) nodes tree)
-    | inr s ↦ rw (t, s) (tree_recounted nodes n left tree (more_counts n left nodes t))
-  ]
-  | inr f ↦ rw f tree
-]
+tree_lowered n left nodes tree =
+    by_lowering (λ (rs : List ResourceData). is_tree rs ≡ true) n left nodes
+    (λ t z. is_tree-without (has_number n) nodes tree)
+    (λ t s. tree_recounted nodes n left tree (more_counts n left nodes t))
+    (λ f. tree)
 
 -- and so do steps one after another
 pub tree_all_lowered : (rows : List (ℕ × ℕ)) (nodes : List ResourceData) → is_tree nodes ≡ true → is_tree (all_lowered_to rows nodes) ≡ true
@@ -291,9 +282,6 @@ all_lowered_by (row ∷ rows) nodes tree once =
     ∙ sym (one_lowered row.0 row.1 (left_in (row ∷ rows)) (left_in rows) (own_first row rows) once.0 (others_after row rows) nodes (tree_ascends nodes tree))
 
 -- ---- and so they are those that what was told lowers
-
-not_none : (k : ℕ) → (k == 0) ≡ false → 1 ≤ k
-not_none k some = grind (arith, nat_tests)
 
 module _ (before : List ResourceData) (drafts : List DraftParts) (after : List ResourceData) (tree : is_tree after ≡ true) (kinds : (r : ResourceData) (old : ℕ) → at r.number after ≡ Some r → left_to r ≡ Some old → 1 ≤ old) (leaves : LeavesWhoIsTold before drafts after) where
   left_same : (r : ResourceData) → at r.number after ≡ Some r → left_by (spent before drafts) r ≡ left_of drafts r

@@ -41,7 +41,7 @@ use Rattle.entity_model.proofs.SoundLemmas.{base_parts, sound_framed, sound_remo
 -- ---- what counts
 
 -- an attribute of a resource is of its kind
-kind_found : (ty : Ty) (a : Attr) (rows : List Row) (d : Data) → have_kinds ty rows ≡ true → value_of a rows ≡ Some d → is_attr_kind ty (a, d) ≡ true
+pub kind_found : (ty : Ty) (a : Attr) (rows : List Row) (d : Data) → have_kinds ty rows ≡ true → value_of a rows ≡ Some d → is_attr_kind ty (a, d) ≡ true
 kind_found ty a [] d all found = cc
 kind_found ty a (row ∷ rows) d all found =
     let parts = and_parts (is_attr_kind ty row) (have_kinds ty rows) all in
@@ -98,17 +98,22 @@ counts_to r left kinds is = by (value_of Exc r.attrs) refl is
 
 -- ---- what is left
 
-lowered_from : (drafts : List DraftParts) (r : ResourceData) (left : ℕ) → left_of drafts r ≡ Some left → (old : ℕ) × (left_to r ≡ Some old) × (left ≤ old)
-lowered_from drafts r left is = elim (cases_Bool (count_for r.number drafts == 0)) [
+-- the resource counts and was told something, and so many are left
+pub record IsTakenFrom (drafts : List DraftParts) (r : ResourceData) (left : ℕ) : Type 0 where
+  pub old : ℕ
+  pub counted : left_to r ≡ Some old
+  pub told : (count_for r.number drafts == 0) ≡ false
+  pub rest : left ≡ old - count_for r.number drafts
+
+pub taken_from : (drafts : List DraftParts) (r : ResourceData) (left : ℕ) → left_of drafts r ≡ Some left → IsTakenFrom drafts r left
+taken_from drafts r left is = elim (cases_Bool (count_for r.number drafts == 0)) [
   | inl t ↦ (let none : None ≡ Some left = rw t at is in cc)
-  | inr f ↦ by (left_to r) refl (rw f at is)
+  | inr f ↦ by (left_to r) refl f (rw f at is)
 ]
   where
-    by : (o : Option ℕ) → left_to r ≡ o → option_map (λ left. left - count_for r.number drafts) o ≡ Some left → (old : ℕ) × (left_to r ≡ Some old) × (left ≤ old)
-    by None found none = cc
-    by (Some old) found some =
-        let e : old - count_for r.number drafts ≡ left = same_Some (old - count_for r.number drafts) left some in
-        (old, found, omega arith)
+    by : (o : Option ℕ) → left_to r ≡ o → (count_for r.number drafts == 0) ≡ false → option_map (λ left. left - count_for r.number drafts) o ≡ Some left → IsTakenFrom drafts r left
+    by None found told none = cc
+    by (Some old) found told some = record { old = old; counted = found; told = told; rest = sym (same_Some (old - count_for r.number drafts) left some) }
 
 -- what isn't a subscription isn't spent
 unspent : (drafts : List DraftParts) (r : ResourceData) → are_kinds r ≡ true → is_ty r.ty Subscription ≡ false → is_spent drafts r ≡ false
@@ -117,8 +122,8 @@ unspent drafts r kinds other = by (left_of drafts r) refl
     by : (o : Option ℕ) → left_of drafts r ≡ o → option_map_or (λ left. left == 0) o false ≡ false
     by None is = refl
     by (Some left) is =
-        let from = lowered_from drafts r left is in
-        absurd (both_ways _ other (counts_to r from.0 kinds from.1).subscription)
+        let from = taken_from drafts r left is in
+        absurd (both_ways _ other (counts_to r from.old kinds from.counted).subscription)
 
 pub base_unspent : (home : HomeData) (drafts : List DraftParts) (nodes : List ResourceData) → begins_with_base home nodes ≡ true → list_all are_kinds nodes ≡ true → spares_first (is_spent drafts) nodes ≡ true
 base_unspent home drafts [] base kinds = refl
@@ -126,7 +131,7 @@ base_unspent home drafts (r ∷ nodes) base kinds =
     let is : r.ty ≡ CseBase = same_type r.ty CseBase (eqb-true _ _ (base_parts home r nodes base).kind) in
     not_from_false _ (unspent drafts r (and_parts (are_kinds r) _ kinds).0 (ap (λ t. is_ty t Subscription) is))
 
-not_none : (left : ℕ) → (left == 0) ≡ false → 1 ≤ left
+pub not_none : (left : ℕ) → (left == 0) ≡ false → 1 ≤ left
 not_none left some = grind (arith, nat_tests)
 
 -- ---- a list in which they are lowered
@@ -252,9 +257,9 @@ module _ (drafts : List DraftParts) where
       by : (o : Option ℕ) → left_of drafts r ≡ o → option_map_or (λ left. left == 0) o false ≡ false → are_kinds (option_map_or (λ left. recounted left r) o r) ≡ true
       by None is left_some = kinds
       by (Some left) is left_some =
-          let from = lowered_from drafts r left is in
-          let counts = counts_to r from.0 kinds from.1 in
-          let high : left ≤ 9223372036854775807 = omega (arith, counts.most, from.2) in
+          let from = taken_from drafts r left is in
+          let counts = counts_to r from.old kinds from.counted in
+          let high : left ≤ 9223372036854775807 = omega (arith, counts.most, from.rest) in
           let ty : r.ty ≡ Subscription = same_type r.ty Subscription (eqb-true _ _ counts.subscription) in
           kinds-with_value r.ty (Exc, number (pos left)) r.attrs (ap (λ t. is_attr_kind t (Exc, number (pos left))) ty ∙ range_from left (not_none left left_some) high) kinds
 

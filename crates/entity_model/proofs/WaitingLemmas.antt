@@ -5,7 +5,7 @@ use Rattle.std.proofs.lemmas.Bool.{cases_Bool, and_parts, and_from, leb-true, le
 use Rattle.std.proofs.lemmas.List.{append-nil}
 use Rattle.std.proofs.lemmas.List.Folds.{list_all-append}
 use Rattle.std.specs.List.{filter, list_all, AllByRecursion}
-use Rattle.m2m_names.proofs.ListLemmas.{all_weaker}
+use Rattle.m2m_names.proofs.ListLemmas.{all_filtered, all_weaker}
 use Rattle.primitive_json.specs.declared.note.NoteParts.{NoteParts}
 use Rattle.notify_outbox.specs.Items.{item_under, next_number, still_waits}
 use Rattle.notify_outbox.specs.Outbox.{without_first}
@@ -26,22 +26,13 @@ waiting_later last moment (i ∷ items) le all =
       | inr f ↦ rw f (waiting_later last moment items le parts.1)
     ]
 
-from_filtered : (p : Item → Bool) (since : ℕ) (items : List Item) → are_from since items ≡ true → are_from since (filter p items) ≡ true
-from_filtered p since [] all = refl
-from_filtered p since (i ∷ items) all =
-    let parts = and_parts (nat_le since i.since) _ all in
-    elim (cases_Bool (p i)) [
-      | inl t ↦ rw t (and_from _ _ parts.0 (from_filtered p since items parts.1))
-      | inr f ↦ rw f (from_filtered p since items parts.1)
-    ]
-
 -- the order stays where some go
 pub order_filtered : (p : Item → Bool) (items : List Item) → do_not_fall items ≡ true → do_not_fall (filter p items) ≡ true
 order_filtered p [] order = refl
 order_filtered p (i ∷ items) order =
     let parts = and_parts (are_from i.since items) _ order in
     elim (cases_Bool (p i)) [
-      | inl t ↦ rw t (and_from _ _ (from_filtered p i.since items parts.0) (order_filtered p items parts.1))
+      | inl t ↦ rw t (and_from _ _ (all_filtered (λ (j : Item). nat_le i.since j.since) p items parts.0) (order_filtered p items parts.1))
       | inr f ↦ rw f (order_filtered p items parts.1)
     ]
 

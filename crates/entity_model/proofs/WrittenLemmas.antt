@@ -1,5 +1,5 @@
--- The objects of a rule and of a list of rules, as they are written.
-use Rattle.std.proofs.Common.{◌≡◌, List, [], ◌∷◌, codes, refl, sym, subst}
+-- The objects of a rule and of one member, as they are written.
+use Rattle.std.proofs.Common.{◌≡◌, List, [], ◌∷◌, ◌++◌, codes, refl, sym, subst}
 use Rattle.std.specs.List.Sorted.{IsStrictlySortedBy}
 use Rattle.m2m_names.proofs.NameLemmas.{unreserved_is_utf8}
 use Rattle.m2m_value.specs.Data.{Data, Entry}
@@ -20,5 +20,6 @@ rule_sorted es bits who is = subst AreSorted (sym is) (members_sorted bits who)
 pub rule_named : (es : List Entry) (bits who : Data) → es ≡ rule_members bits who → HaveTextKeys es
 rule_named es bits who is = subst HaveTextKeys (sym is) (unreserved_is_utf8 (codes "acop") refl, (unreserved_is_utf8 (codes "acor") refl, tt))
 
-pub rules_sorted : (es : List Entry) (e : Entry) → es ≡ e ∷ [] → AreSorted es
-rules_sorted es e is = subst AreSorted (sym is) (one_sorted e)
+-- an object of one member
+pub sorted_alone : (es : List Entry) (e : Entry) → es ≡ [] ++ e ∷ [] → AreSorted es
+sorted_alone es e is = subst AreSorted (sym is) (one_sorted e)

@@ -1,6 +1,6 @@
 -- What comes of a request, and the order in which it is refused.
-use Rattle.std.specs.Prelude.{ℕ, Bool, ℤ, List, [], ◌∷◌, Option, Some, None, unwrap_or}
-use Rattle.std.specs.Prelude.{if◌then◌else◌}
+use Rattle.std.specs.Prelude.{◌≡◌, ℕ, Bool, ℤ, List, [], ◌∷◌, Option, Some, None, unwrap_or}
+use Rattle.std.specs.Prelude.{Result, IfOk, OnOk, if◌then◌else◌}
 use Rattle.std.specs.Option.{option_map_or}
 use Rattle.m2m_names.specs.declared.codes.Rsc.{Rsc}
 use Rattle.m2m_names.specs.declared.codes.Rsc.TheVariants.{NotFound}
@@ -37,6 +37,12 @@ reading_bit looks = if looks then discovery_bit else retrieve_bit
 pub record Effect : Type 0 where
   pub reply : ReplyParts
   pub after : EntityData
+
+-- This comes of a request, unless memory runs out: the reply, and the entity that is left.
+pub record ComesTo {E : Type 0} (result : Result ReplyParts E) (left : EntityData)
+    (effect : Effect) : Type 0 where
+  pub reply : IfOk result (λ r. r ≡ effect.reply)
+  pub after : OnOk result (left ≡ effect.after)
 
 -- a reply that leaves the entity as it is
 abbrev pub reply_alone : EntityData → ReplyParts → Effect

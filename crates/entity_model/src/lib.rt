@@ -25,6 +25,7 @@
 //! ```
 #![tactic(auto)]
 
+mod contents;
 mod entity;
 mod laws;
 mod moments;
@@ -35,6 +36,7 @@ mod taking;
 mod telling;
 mod told;
 
+pub use contents::object_of_one;
 pub use entity::Entity;
 pub use laws::{
     a_sound_entity_has_one_base, an_expiry_tells_what_it_takes,

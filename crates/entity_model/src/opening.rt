@@ -6,6 +6,7 @@ ghost use Rattle.tree_model.specs.Tree.{may_stand};
 ghost use Rattle.policy_eval.specs.Rules as policies;
 ghost use Rattle.entity_model.specs.Opening as spec;
 
+use crate::contents::object_of_one;
 use m2m_names::{ALL_BITS, Attr, LAST_MOMENT, Ty};
 use m2m_value::{Items, MemberKey, Members, Text, Val};
 use resource_model::id_text;
@@ -41,9 +42,7 @@ fn written_rule(alloc: Global, who: Text, bits: u32) -> Result<Val, OutOfMemory>
 fn written_rules(alloc: Global, rules: Vec<Val>) -> Result<Val, OutOfMemory>
     ensures { IfOk result (λ v. v ≡ policies.written_rules rules.items) }
 {
-    let mut members = Vec::with_capacity(alloc, 1)?;
-    members.push((MemberKey::named("acr"), Val::of_list(Items::of(rules))))?;
-    Ok(Val::of_obj(Members::of(members)))
+    object_of_one(alloc, "acr", Val::of_list(Items::of(rules)))
 }
 
 // The administrator may do all.

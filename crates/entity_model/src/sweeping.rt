@@ -96,8 +96,8 @@ fn pass<T: Tree>(entity: &mut Entity<T>, moment: u64)
     entity.last = moment;
 }
 
-// What is due at a moment goes, with all that stands below it, and so does what has waited the keeping
-// time. The tree isn't asked to let anything expire where it knows that nothing is due.
+// What is due at a moment goes, with all that stands below it, and so does what has waited the
+// keeping time. The tree isn't asked to let anything expire where it knows that nothing is due.
 fn age<T: Tree>(tree: &mut T, outbox: &mut Outbox, moment: u64)
     requires { IsTrue (is_tree (T.nodes tree.old)) }
     ensures nodes { T.nodes tree.new ≡ live moment (T.nodes tree.old) }

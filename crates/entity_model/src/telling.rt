@@ -148,9 +148,9 @@ fn remove_spent<T: Tree>(tree: &mut T, numbers: Vec<u64>)
     tree.remove_all(&gone);
 }
 
-/// Appends what is told to the outbox at a moment, and lowers the subscriptions: those to which some
-/// are left are counted anew one after another, and those to which none is left go in one pass. It
-/// can't fail, as there is room for the notes, and a removal needs no memory.
+/// Appends what is told to the outbox at a moment, and lowers the subscriptions: those to which
+/// some are left are counted anew one after another, and those to which none is left go in one
+/// pass. It can't fail, as there is room for the notes, and a removal needs no memory.
 pub fn tell<T: Tree>(tree: &mut T, outbox: &mut Outbox, moment: u64, told: Told)
     requires tree { IsTrue (is_tree (T.nodes tree.old)) }
     requires room { length told.notes.items ≤ outbox.old.room }

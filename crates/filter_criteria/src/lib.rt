@@ -14,8 +14,8 @@
 //! sort is read as absent: callers judge first.
 //!
 //! Here too stands what filters and the primitives around them share: members of objects by their
-//! names (`members_in`, `value_at`, `value_among`), objects of the members that are there (`push_member`,
-//! `sorted_object`), and a few kinds of values.
+//! names (`members_in`, `value_at`, `value_among`), objects of the members that are there
+//! (`push_member`, `sorted_object`), and a few kinds of values.
 //!
 //! ```text
 //! let labels = Condition::named(b"lbl"); // Some(Condition::Labels)

@@ -1,12 +1,8 @@
 -- A fan-out, member by member.
-use Rattle.std.proofs.Common.{◌≡◌, ℕ, ◌+◌, ◌≤◌, List, [], ◌∷◌, ◌++◌, length, map, take, Bool, true, false, Option, Some, None, Result, Ok, Err, refl, sym, ap, ◌∙◌, subst, arith}
-use Rattle.std.proofs.Math.Seq.{take-append_seam, take-length, take-nil}
+use Rattle.std.proofs.Common.{◌≡◌, ℕ, ◌+◌, List, [], ◌∷◌, ◌++◌, length, map, take, true, Option, Some, None, Result, Ok, Err, refl, sym, ap, ◌∙◌, arith}
+use Rattle.std.proofs.Math.Seq.{take-append_seam, take-length}
 use Rattle.std.proofs.lemmas.Bool.{false≢true}
-use Rattle.std.proofs.lemmas.Option.{same_Some}
 use Rattle.std.proofs.lemmas.List.{append_assoc, append-nil, length-append, length-map, map-append}
-use Rattle.std.specs.Option.{option_map_or}
-use Rattle.m2m_names.specs.declared.codes.Rsc.{Rsc}
-use Rattle.m2m_names.specs.declared.codes.Rsc.TheVariants.{NoPrivilege, NotAllowed, NotFound}
 use Rattle.m2m_names.specs.declared.operations.Op.{Op}
 use Rattle.m2m_names.specs.declared.operations.Op.TheVariants.{Create, Retrieve, Update, Delete, Notify}
 use Rattle.m2m_value.specs.Data.{Data}
@@ -23,9 +19,8 @@ use Rattle.addressing.specs.declared.addr.AddrFault.{AddrFault}
 use Rattle.addressing.specs.declared.spot.Spot.{Spot}
 use Rattle.addressing.specs.declared.spot.Spot.TheVariants.{Resource, Fan, Poll}
 use Rattle.entity_model.specs.Entity.{EntityData}
-use Rattle.entity_model.specs.Places.{Effect, first_fault, refused, unless}
-use Rattle.group_fanout.specs.Fan.{IsCutShortAt, Single, addresses_at, addresses_of, after_members, fan_effect, fan_effect_at, fan_fault_at, fan_places, fanned, fanned_at, fanned_requests, gathered_one, is_fanned, may_fan, member_effect, member_effect_at, member_effect_by, member_requests, requests_to, sent_to, single_of, singles_of, told_of}
-use Rattle.group_fanout.specs.Operations.{change_effect, found_effect, relay_effect, resource_effect}
+use Rattle.group_fanout.specs.Fan.{IsCutShortAt, Single, after_members, gathered_one, is_fanned, member_effect, member_effect_at, member_effect_by, requests_to, sent_to, single_of, singles_of, told_of}
+use Rattle.group_fanout.specs.Operations.{change_effect, found_effect}
 use Rattle.group_fanout.specs.Rights.{claimed_originator}
 use Rattle.group_fanout.proofs.HomeLemmas.{member_home}
 
@@ -58,43 +53,6 @@ member_alike e request to (Ok (Local segments)) fans = spot_alike e request to (
 member_alike e request to (Ok (Foreign address)) fans = refl
 member_alike e request to (Ok OtherProvider) fans = refl
 member_alike e request to (Err fault) fans = refl
-
--- ---- a fan-out that is refused, and one that is done
-
-pub fan_refused : (e : EntityData) (request : RequestParts) (rest : List (List ℕ)) (n : ℕ) (fault : Rsc) → fan_fault_at e request n ≡ Some fault → fan_effect_at e request rest n ≡ refused e request fault
-fan_refused e request rest n fault is = by (at n e.nodes) is
-  where
-    by : (found : Option ResourceData) → option_map_or (λ (g : ResourceData). first_fault (fan_places e request g)) found (Some NotFound) ≡ Some fault → option_map_or (fan_effect e request rest) found (refused e request NotFound) ≡ refused e request fault
-    by None is = ap (refused e request) (same_Some NotFound fault is)
-    by (Some g) is =
-        ap (λ (f : Option Rsc). option_map_or (refused e request) f (fanned e request (member_requests request rest g))) is
-
--- the members of a group are asked
-pub record IsFannedOut (e : EntityData) (request : RequestParts) (rest : List (List ℕ)) (n : ℕ) : Type 0 where
-  pub effect : fan_effect_at e request rest n ≡ fanned e request (requests_to request (addresses_at e rest n))
-  pub requests : fanned_at e request rest n ≡ requests_to request (addresses_at e rest n)
-  pub fans : is_fanned request.op ≡ true
-
-pub fan_done : (e : EntityData) (request : RequestParts) (rest : List (List ℕ)) (n : ℕ) → fan_fault_at e request n ≡ None → IsFannedOut e request rest n
-fan_done e request rest n is =
-    let all = by (at n e.nodes) is in
-    record { effect = all.0; requests = all.1; fans = all.2 }
-  where
-    second : (may fans : Bool) → first_fault (unless may NoPrivilege ∷ unless fans NotAllowed ∷ []) ≡ None → fans ≡ true
-    second true true is = refl
-    second true false is = let none : Some NotAllowed ≡ None = is in cc
-    second false fans is = let none : Some NoPrivilege ≡ None = is in cc
-
-    by : (found : Option ResourceData) → option_map_or (λ (g : ResourceData). first_fault (fan_places e request g)) found (Some NotFound) ≡ None
-        → (option_map_or (fan_effect e request rest) found (refused e request NotFound) ≡ fanned e request (requests_to request (option_map_or (addresses_of rest) found [])))
-        × (option_map_or (fanned_requests e request rest) found [] ≡ requests_to request (option_map_or (addresses_of rest) found []))
-        × (is_fanned request.op ≡ true)
-    by None is = let none : Some NotFound ≡ None = is in cc
-    by (Some g) is = (
-      ap (λ (f : Option Rsc). option_map_or (refused e request) f (fanned e request (member_requests request rest g))) is,
-      ap (λ (f : Option Rsc). option_map_or (λ (x : Rsc). []) f (member_requests request rest g)) is,
-      second (may_fan e request g.number) (is_fanned request.op) is,
-    )
 
 -- ---- one member after another
 
@@ -208,10 +166,6 @@ none_cut e requests done after none same = record {
   within = omega (arith, none);
   left = same ∙ sym (ap (λ (k : ℕ). after_members e (take k requests)) none);
 }
-
--- where there are no members, none is done
-pub cut_of_none : (e : EntityData) (done : ℕ) (after : EntityData) → IsCutShortAt e [] done after → (done ≡ 0) × (after ≡ e)
-cut_of_none e done after cut = (omega (arith, cut.within), cut.left ∙ ap (after_members e) (take-nil done))
 
 pub all_cut : (before : EntityData) (request : RequestParts) (all : List (List ℕ)) (done : ℕ) (e : EntityData) → done ≡ length all → e ≡ after_members before (requests_to request all) → IsCutShortAt before (requests_to request all) done e
 all_cut before request all done e count left = record {

@@ -1,14 +1,12 @@
 -- The addresses of members, and what is told of them.
-use Rattle.std.proofs.Common.{◌≡◌, ℕ, ◌<◌, List, [], ◌∷◌, ◌++◌, length, drop, map, true, IsUtf8, refl, sym, ap, ◌∙◌, subst}
-use Rattle.std.specs.List.{AllByRecursion, list_all}
+use Rattle.std.proofs.Common.{◌≡◌, ℕ, List, [], ◌∷◌, ◌++◌, true, IsUtf8, sym, ap, ◌∙◌, subst}
 use Rattle.std.proofs.lemmas.Bool.{and_parts}
 use Rattle.std.proofs.lemmas.List.{append_assoc}
 use Rattle.std.proofs.lemmas.List.Elements.{filter_map-append}
 use Rattle.std.proofs.lemmas.Str.{IsUtf8-append}
 use Rattle.m2m_names.proofs.NameLemmas.{name_is_utf8}
 use Rattle.m2m_value.specs.Data.{Entry}
-use Rattle.m2m_value.specs.Node.{AreSorted}
-use Rattle.tree_model.proofs.ShownLemmas.{one_sorted, slash_utf8}
+use Rattle.tree_model.proofs.ShownLemmas.{slash_utf8}
 use Rattle.addressing.specs.Addresses.{are_names, joined}
 use Rattle.filter_criteria.specs.Values.{NamedValue, entry_there, present}
 
@@ -36,11 +34,6 @@ pub names_on : (p : List ℕ) (left more : List (List ℕ)) → left ≡ p ∷ m
 names_on p left more is names = (and_parts _ _ (ap are_names (sym is) ∙ names)).1
 
 pub ruleset written_so_far = (written_on, text_on, names_on)
-
--- ---- an object of one member
-
-pub sorted_alone : (es : List Entry) (e : Entry) → es ≡ [] ++ e ∷ [] → AreSorted es
-sorted_alone es e is = subst AreSorted (sym is) (one_sorted e)
 
 -- ---- what is told of one
 

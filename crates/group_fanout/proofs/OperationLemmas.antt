@@ -81,12 +81,6 @@ delete_to e request o n = changes_to Delete e request o n (delete_found e reques
 abbrev relayed_of : EntityData → RequestParts → List ℕ → Option ResourceData → Effect
 relayed_of e request o found = option_map_or (notify_on e o request) found (refused e request NotFound)
 
--- on the resource of a number
-pub relayed_at : (e : EntityData) (request : RequestParts) (t : ResourceData) → at t.number e.nodes ≡ Some t → relay_effect e request t ≡ notify_at e (claimed_originator e.home request) request t.number
-unfolding relay_effect
-relayed_at e request t there =
-    sym (ap (relayed_of e request (claimed_originator e.home request)) there)
-
 notify_found : (e : EntityData) (request : RequestParts) (found : Option ResourceData) → found_effect Notify e request found ≡ relayed_of e request (claimed_originator e.home request) found
 unfolding relay_effect
 notify_found e request None = refl

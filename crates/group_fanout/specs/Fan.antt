@@ -90,8 +90,8 @@ sent_to request address = record request { to = address }
 abbrev pub requests_to : RequestParts → List (List ℕ) → List RequestParts
 requests_to request addresses = map (sent_to request) addresses
 
--- The requests to the members of a group: the same originator, operation and content, to the address
--- of each, with the rest behind it.
+-- The requests to the members of a group: the same originator, operation and content, to the
+-- address of each, with the rest behind it.
 abbrev pub member_requests : RequestParts → List (List ℕ) → ResourceData → List RequestParts
 member_requests request rest group = requests_to request (addresses_of rest group)
 

@@ -32,8 +32,8 @@ unfoldable pub relay_effect : EntityData → RequestParts → ResourceData → E
 relay_effect e request target =
     notify_on e (claimed_originator e.home request) request target
 
--- what an operation on a resource gives: a Retrieve reads it, a Notify is handed on, and every other
--- may change something (TS-0001, 10.2)
+-- what an operation on a resource gives: a Retrieve reads it, a Notify is handed on, and every
+-- other may change something (TS-0001, 10.2)
 abbrev pub operation_effect : Op → EntityData → RequestParts → ResourceData → Effect
 operation_effect Create e request target = change_effect Create e request target
 operation_effect Retrieve e request target =

@@ -6,7 +6,7 @@ ghost use Rattle.m2m_names.specs.Name.{is_originator};
 ghost use Rattle.tree_model.specs.Tree.{has};
 ghost use Rattle.addressing.specs.Addresses.{GivesAddress, address_of, are_names};
 ghost use Rattle.policy_eval.specs.Rights.{fan_grants};
-ghost use Rattle.entity_model.specs.Places.{first_fault};
+ghost use Rattle.entity_model.specs.Places.{ComesTo, first_fault};
 ghost use Rattle.group_fanout.specs.Fan.{IsCutShortAt, after_members, fan_effect_at, fan_places};
 ghost use Rattle.group_fanout.specs.Fan.{fanned, fanned_at, gathered_one, member_effect};
 ghost use Rattle.group_fanout.specs.Fan.{member_effect_at, member_effect_by, requests_to, sent_to};
@@ -61,10 +61,8 @@ pub fn fan<T: Tree>(
     requires originator { IsTrue (is_originator originator.now) }
     requires claimed { claimed_originator entity.old.home request.now ≡ originator.now }
     requires names { IsTrue (are_names rest.now) }
-    ensures reply { IfOk result (λ r. r
-        ≡ (fan_effect_at entity.old request.now rest.now group).reply) }
-    ensures after { OnOk result
-        (entity.new ≡ (fan_effect_at entity.old request.now rest.now group).after) }
+    ensures gives { ComesTo result entity.new
+        (fan_effect_at entity.old request.now rest.now group) }
     ensures cut { IfErr result (λ s. IsCutShortAt entity.old
         (fanned_at entity.old request.now rest.now group) s.done entity.new) }
 {
@@ -174,10 +172,8 @@ fn fan_out<T: Tree>(
     requires claimed { claimed_originator entity.old.home request.now ≡ originator.now }
     requires fanned { IsTrue (spec.is_fanned request.now.op) }
     requires utf8 { AllByRecursion IsUtf8 addresses.items }
-    ensures reply { IfOk result (λ r. r
-        ≡ (fanned entity.old request.now (requests_to request.now addresses.items)).reply) }
-    ensures after { OnOk result (entity.new
-        ≡ (fanned entity.old request.now (requests_to request.now addresses.items)).after) }
+    ensures gives { ComesTo result entity.new
+        (fanned entity.old request.now (requests_to request.now addresses.items)) }
     ensures cut { IfErr result (λ s. IsCutShortAt entity.old
         (requests_to request.now addresses.items) s.done entity.new) }
 {
@@ -261,10 +257,8 @@ fn ask_member<T: Tree>(
     requires originator { IsTrue (is_originator originator.now) }
     requires claimed { claimed_originator entity.old.home request.now ≡ originator.now }
     requires fanned { IsTrue (spec.is_fanned request.now.op) }
-    ensures reply { IfOk result (λ r. r
-        ≡ (member_effect entity.old (sent_to request.now address.now)).reply) }
-    ensures after { OnOk result
-        (entity.new ≡ (member_effect entity.old (sent_to request.now address.now)).after) }
+    ensures gives { ComesTo result entity.new
+        (member_effect entity.old (sent_to request.now address.now)) }
     ensures err { OnErr result (entity.new ≡ entity.old) }
 {
     match read_address(alloc, entity, address) {
@@ -295,10 +289,8 @@ fn ask_at<T: Tree>(
 ) -> Result<Reply, OutOfMemory>
     requires originator { IsTrue (is_originator originator.now) }
     requires claimed { claimed_originator entity.old.home request.now ≡ originator.now }
-    ensures reply { IfOk result (λ r. r
-        ≡ (member_effect_by entity.old request.now (Fine addr.now)).reply) }
-    ensures after { OnOk result
-        (entity.new ≡ (member_effect_by entity.old request.now (Fine addr.now)).after) }
+    ensures gives { ComesTo result entity.new
+        (member_effect_by entity.old request.now (Fine addr.now)) }
     ensures err { OnErr result (entity.new ≡ entity.old) }
 {
     match addr {
@@ -321,8 +313,7 @@ fn ask_spot<T: Tree>(
 ) -> Result<Reply, OutOfMemory>
     requires originator { IsTrue (is_originator originator.now) }
     requires claimed { claimed_originator entity.old.home request.now ≡ originator.now }
-    ensures reply { IfOk result (λ r. r ≡ (member_effect_at entity.old request.now spot).reply) }
-    ensures after { OnOk result (entity.new ≡ (member_effect_at entity.old request.now spot).after) }
+    ensures gives { ComesTo result entity.new (member_effect_at entity.old request.now spot) }
     ensures err { OnErr result (entity.new ≡ entity.old) }
 {
     match spot {

@@ -6,10 +6,10 @@ ghost use Rattle.filter_criteria.specs.Values.{count_data};
 ghost use Rattle.entity_model.specs.Places as places;
 ghost use Rattle.group_fanout.specs.Fan as spec;
 
-use entity_model::reply_to;
+use entity_model::{object_of_one, reply_to};
 use filter_criteria::{push_member, sorted_object};
 use m2m_names::Rsc;
-use m2m_value::{Items, MemberKey, Members, Text, Val};
+use m2m_value::{Items, Text, Val};
 use primitive_json::{Reply, ReplyParts, Request};
 use std::alloc::{AllocError as OutOfMemory, Global};
 
@@ -34,16 +34,6 @@ pub(crate) fn gathered_one(alloc: Global, reply: Reply, address: Text) -> Result
     Ok(sorted_object(entries))
 }
 
-// An object of one member.
-#[tactic(auto, using(crate::proofs::MemberLemmas::sorted_alone))]
-fn object_with(alloc: Global, key: &'static str, value: Val) -> Result<Val, OutOfMemory>
-    ensures { IfOk result (λ v. v ≡ spec.object_with key.now value) }
-{
-    let mut members = Vec::with_capacity(alloc, 1)?;
-    members.push((MemberKey::named(key), value))?;
-    Ok(Val::of_obj(Members::of(members)))
-}
-
 /// The reply to a fan-out: it was done, and what is told of each operation, which is moved.
 pub(crate) fn reply_of(
     alloc: Global,
@@ -53,7 +43,7 @@ pub(crate) fn reply_of(
     ensures { IfOk result (λ r. r
         ≡ places.reply_to request.now status.Ok (Some (spec.gathering replies.items))) }
 {
-    let list = object_with(alloc, "m2m:rsp", Val::of_list(Items::of(replies)))?;
-    let content = object_with(alloc, "m2m:agr", list)?;
+    let list = object_of_one(alloc, "m2m:rsp", Val::of_list(Items::of(replies)))?;
+    let content = object_of_one(alloc, "m2m:agr", list)?;
     reply_to(alloc, request, Rsc::Ok, Some(content))
 }

@@ -5,12 +5,12 @@
 //! `specs/Operations`): a Retrieve reads it, a Notify is handed on, and every other operation may
 //! change something.
 //!
-//! `fan` gives what a request gives at the fan-out point of a group (`fan_effect_at` of `specs/Fan`).
-//! Without the right on the group it is refused. Else each member that the group has is asked in
-//! order, by the one function that any request to a resource is answered by, on the entity that the
-//! member before left: so each is judged by its own rights, and what it changes is told as that of
-//! one request. A member on another CSE isn't reached. The reply lists those of all members. Where
-//! memory runs out it is told how many members have been done.
+//! `fan` gives what a request gives at the fan-out point of a group (`fan_effect_at` of
+//! `specs/Fan`). Without the right on the group it is refused. Else each member that the group has
+//! is asked in order, by the one function that any request to a resource is answered by, on the
+//! entity that the member before left: so each is judged by its own rights, and what it changes is
+//! told as that of one request. A member on another CSE isn't reached. The reply lists those of all
+//! members. Where memory runs out it is told how many members have been done.
 //!
 //! Callers owe an originator in its short form, as the one whom the request is judged as
 //! (`claimed_originator` of `specs/Rights`), and that what follows the fan-out point is names.

@@ -1,8 +1,9 @@
 //! One operation on one resource.
-ghost use Rattle.std.specs.Prelude.{◌≡◌, IfOk, IsTrue, OnErr, OnOk};
+ghost use Rattle.std.specs.Prelude.{◌≡◌, IfOk, IsTrue, OnErr};
 ghost use Rattle.m2m_names.specs.Name.{is_originator};
 ghost use Rattle.m2m_names.specs.declared.operations.Op.TheVariants.{Retrieve};
 ghost use Rattle.tree_model.specs.Tree.{at, has};
+ghost use Rattle.entity_model.specs.Places.{ComesTo};
 ghost use Rattle.group_fanout.specs.Operations.{found_effect, reading_reply, resource_effect};
 ghost use Rattle.group_fanout.specs.Rights.{claimed_originator};
 
@@ -27,10 +28,8 @@ pub fn operate<T: Tree>(
 ) -> Result<Reply, OutOfMemory>
     requires originator { IsTrue (is_originator originator.now) }
     requires claimed { claimed_originator entity.old.home request.now ≡ originator.now }
-    ensures reply { IfOk result (λ r. r
-        ≡ (resource_effect entity.old request.now (at number entity.old.nodes)).reply) }
-    ensures after { OnOk result (entity.new
-        ≡ (resource_effect entity.old request.now (at number entity.old.nodes)).after) }
+    ensures gives { ComesTo result entity.new
+        (resource_effect entity.old request.now (at number entity.old.nodes)) }
     ensures err { OnErr result (entity.new ≡ entity.old) }
 {
     match request.parts().op {

@@ -68,9 +68,6 @@ pub data IsLeftShort (e : EntityData) (request : RequestParts) (done : ℕ) (aft
   undone : done ≡ 0 → after ≡ e → IsLeftShort e request done after
   some_done : (fan : IsHeardFan e request (heard_members e request)) → after ≡ after_members e (requests_to request (take done (member_addresses e request fan.place fan.group))) → IsLeftShort e request done after
 
-none_done : (done : ℕ) → done ≤ length {A = RequestParts} [] → done ≡ 0
-none_done done few = omega (arith, few)
-
 pub left_short : (e : EntityData) (request : RequestParts) (done : ℕ) (after : EntityData) → IsCutShort e request done after → IsLeftShort e request done after
 left_short e request done after short = by (heard_by e request)
   where

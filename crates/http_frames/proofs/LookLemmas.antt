@@ -382,6 +382,3 @@ some_bytes side bytes = record {
 
 -- how a look behind a head goes
 pub ruleset behind_head_cases = (no_body, walked_none_yet, behind_walked)
-
--- how a look at a head that is whole goes
-pub ruleset head_cases = (head_too_long, walked_none_yet)

@@ -27,7 +27,7 @@ use Rattle.http_frames.specs.Waiting.{piece_limit, LackChunk, MayBecomeHead, IsU
 use Rattle.http_frames.specs.Inbox.{Reads, GivesAsNeeded, most_held}
 use Rattle.http_frames.proofs.FrameLemmas.{chunks_length}
 use Rattle.http_frames.proofs.ChunkLemmas.{front_within}
-use Rattle.http_frames.proofs.LookLemmas.{some_bytes, head_some, short_of_head, short_of_body, frame_goes_on, too_large, whole_frame, chunks_whole, chunks_never, no_head_within, too_many_lines, walked_none_yet}
+use Rattle.http_frames.proofs.LookLemmas.{some_bytes, head_some, head_too_long, short_of_head, short_of_body, frame_goes_on, too_large, whole_frame, chunks_whole, chunks_never, no_head_within, too_many_lines, walked_none_yet}
 use Rattle.http_frames.proofs.InboxLemmas.{NeedsBytes-more, none_within, frame_begins}
 use Rattle.http_frames.proofs.TextLemmas.{written_is_read}
 
@@ -311,4 +311,4 @@ pub ruleset body_cases = (too_large, body_waits, whole_frame)
 pub ruleset chunks_cases = (chunks_whole, chunks_never, chunks_wait)
 
 -- how a look from the start goes
-pub ruleset start_cases = (no_head_within, too_many_lines, empty_waits, head_waits, walked_none_yet)
+pub ruleset start_cases = (no_head_within, too_many_lines, head_too_long, empty_waits, head_waits, walked_none_yet)

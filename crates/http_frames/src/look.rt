@@ -168,7 +168,7 @@ fn look_behind(
 /// What frame stands at the front, where no head was found yet. Where its lines are is written to
 /// `headers`. A head that is still coming is parsed anew after each read, since a read is made only
 /// where the bytes held may still become one, and that httparse tells of all of them alone.
-#[tactic(auto, using(crate::proofs::WaitLemmas::start_cases, crate::proofs::LookLemmas::head_cases))]
+#[tactic(auto, using(crate::proofs::WaitLemmas::start_cases))]
 fn look_from_start(
     side: Side,
     bytes: &[u8],

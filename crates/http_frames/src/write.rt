@@ -121,8 +121,8 @@ fn append_lines(out: &mut Vec<u8>, lines: &Lines) -> Result<(), AllocError>
     Ok(())
 }
 
-/// The text of a frame: its head with the lines as they are, and its body as it is. It adds no line,
-/// so the lines have to say how long the body is.
+/// The text of a frame: its head with the lines as they are, and its body as it is. It adds no
+/// line, so the lines have to say how long the body is.
 pub fn frame_bytes(alloc: Global, frame: &Frame) -> Result<Vec<u8>, AllocError>
     ensures { IfOk result (λ text. text.items ≡ frame_text frame.now) }
 {

@@ -1,12 +1,12 @@
 -- What a crash leaves of a text with a gate behind it.
-use Rattle.std.proofs.Common.{◌≡◌, ◌≢◌, ◌⊎◌, inl, inr, ℕ, zero, suc, ◌+◌, ◌-◌, ◌≤◌, min, max, Bool, true, false, List, [], ◌∷◌, ◌++◌, length, get_or, take, drop, refl, sym, ◌∙◌, ap, subst, arith, append_assoc, length-append, length-drop, take-append-drop}
+use Rattle.std.proofs.Common.{◌≡◌, ◌≢◌, ◌⊎◌, inl, inr, ⊎_elim, ℕ, zero, suc, ◌+◌, ◌-◌, ◌≤◌, min, max, Bool, true, false, List, [], ◌∷◌, ◌++◌, length, get_or, take, drop, refl, sym, ◌∙◌, ap, subst, arith, append_assoc, length-append, length-drop, take-append-drop}
 use Rattle.std.specs.Prelude.{Result, Ok, Err, OnOk}
 use Rattle.std.proofs.lemmas.Bool.{cases_Bool, cases_eq, eqb-true}
 use Rattle.std.proofs.lemmas.Bool.Decides.{nat_tests}
 use Rattle.std.proofs.lemmas.List.{take_at, drop_at, drop_more, take_all, drop_all, append-nil}
-use Rattle.kept_file.specs.Crashes.{LeavesThis, Overwrites, TornCut, TornWrite}
+use Rattle.kept_file.specs.Crashes.{LeavesThis, Overwrites, Replaces, TornCut, TornWrite}
 use Rattle.journal_file.specs.declared.journal.Journal.{Journal}
-use Rattle.journal_file.specs.Gates.{Begins, IsSettled, KeepsText, KeepsBeforeOrAfter, at_rest, is_batch, is_shut, text_of}
+use Rattle.journal_file.specs.Gates.{Begins, IsSettled, KeepsText, KeepsBeforeOrAfter, KeepsOneOf, at_rest, is_batch, is_shut, text_of}
 
 -- what follows from what holds of a success
 pub on_ok : {T E P Q : Type 0} (r : Result T E) → (P → Q) → OnOk r P → OnOk r Q
@@ -184,3 +184,50 @@ pub settled : {F : Type 0} (seen : F → List ℕ) (may_leave : F → List ℕ �
 settled seen may_leave j text rest size kept =
     let is : text_of seen j ≡ text = text_at_rest text (seen j.file) j.len size rest in
     (record { rest = rest ∙ ap at_rest (sym is); len = ap length is ∙ size; kept = kept }, is)
+
+-- ---- a text that is replaced
+
+pub rest_keeps : (text : List ℕ) → KeepsText text (at_rest text)
+rest_keeps text = record { behind = 10 ∷ []; split = refl; shut = refl }
+
+pub one_of : (text other old bytes c : List ℕ) → old ≡ at_rest text → bytes ≡ at_rest other → Replaces bytes old c → KeepsOneOf text other c
+one_of text other old bytes c was is step = ⊎_elim
+    (λ same. inl (subst (KeepsText text) (sym (same ∙ was)) (rest_keeps text)))
+    (λ new. inr (subst (KeepsText other) (sym (new ∙ is)) (rest_keeps other))) step
+
+replaced_size : (text : List ℕ) → length (at_rest text) ≡ length text + 1
+replaced_size text = length-append text (10 ∷ [])
+
+-- the text of a file at rest
+pub replaced_text : (text bytes : List ℕ) → bytes ≡ at_rest text → take (length bytes - 1) bytes ≡ text
+replaced_text text bytes is =
+    let size : length bytes - 1 ≡ length text = omega (arith, ap length is, replaced_size text) in
+    ap (λ n. take n bytes) size ∙ ap (λ (l : List ℕ). take (length text) l) is ∙ take_at text (10 ∷ []) (length text) refl
+
+-- one that was put there is ready
+pub replaced_settled : {F : Type 0} (seen : F → List ℕ) (may_leave : F → List ℕ → Type 0) (journal : Journal F) (text bytes : List ℕ)
+    → bytes ≡ at_rest text → seen journal.file ≡ bytes → journal.len ≡ length bytes - 1 → LeavesThis (seen journal.file) (may_leave journal.file)
+    → IsSettled seen may_leave journal × (text_of seen journal ≡ text)
+replaced_settled seen may_leave journal text bytes is put len kept =
+    let same : text_of seen journal ≡ text = ap (λ n. take n (seen journal.file)) len ∙ ap (λ (l : List ℕ). take (length bytes - 1) l) put ∙ replaced_text text bytes is in (
+      record {
+        rest = put ∙ is ∙ ap at_rest (sym same);
+        len = ap length same ∙ omega (arith, ap length is, replaced_size text, len);
+        kept = kept;
+      },
+      same,
+    )
+
+-- one that stayed is ready
+pub stayed_settled : {F : Type 0} (seen : F → List ℕ) (may_leave : F → List ℕ → Type 0) (old new : Journal F) → IsSettled seen may_leave old
+    → seen new.file ≡ seen old.file → new.len ≡ old.len → LeavesThis (seen new.file) (may_leave new.file)
+    → IsSettled seen may_leave new × (text_of seen new ≡ text_of seen old)
+stayed_settled seen may_leave old new settled same len kept =
+    let text : text_of seen new ≡ text_of seen old = ap (λ n. take n (seen new.file)) len ∙ ap (λ (l : List ℕ). take old.len l) same in (
+      record {
+        rest = same ∙ settled.rest ∙ ap at_rest (sym text);
+        len = ap length text ∙ settled.len ∙ sym len;
+        kept = kept;
+      },
+      text,
+    )

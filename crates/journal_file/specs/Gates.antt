@@ -43,6 +43,10 @@ is_batch (gate ∷ b ∷ rest) = gate == open_gate
 abbrev pub KeepsBeforeOrAfter : List ℕ → List ℕ → List ℕ → Type 0
 KeepsBeforeOrAfter text batch file = KeepsText text file ⊎ KeepsText (text ++ batch) file
 
+-- A file keeps one text or the other.
+abbrev pub KeepsOneOf : List ℕ → List ℕ → List ℕ → Type 0
+KeepsOneOf text other file = KeepsText text file ⊎ KeepsText other file
+
 -- the text of a journal
 abbrev pub text_of : {F : Type 0} → (F → List ℕ) → Journal F → List ℕ
 text_of seen journal = take journal.len (seen journal.file)

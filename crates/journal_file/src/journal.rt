@@ -1,13 +1,13 @@
 //! The file of a journal.
 ghost use Rattle.std.specs.Prelude.{◌≡◌, ◌⊎◌, ◌+◌, ◌≤◌, ◌<◌, ◌^◌, ◌++◌, true, false, length, take};
-ghost use Rattle.std.specs.Prelude.{OnErr, OnOk, is_err, IsErr};
+ghost use Rattle.std.specs.Prelude.{ℕ, List, IfOk, OnErr, OnOk, is_err, IsErr};
 ghost use Rattle.kept_file.specs.Crashes.{LeavesOnly, LeavesThis};
-ghost use Rattle.journal_file.specs.Gates.{IsReady, KeepsBeforeOrAfter, KeepsText, at_rest};
-ghost use Rattle.journal_file.specs.Gates.{is_batch, text_of};
+ghost use Rattle.journal_file.specs.Gates.{IsReady, KeepsBeforeOrAfter, KeepsOneOf, KeepsText};
+ghost use Rattle.journal_file.specs.Gates.{at_rest, is_batch, text_of};
 ghost use Rattle.m2m_io.specs.Counts.{CountsFaults, Rose};
 
-use crate::calls::{cut_synced, write_behind, write_synced};
-use kept_file::{Failed, KeptFile};
+use crate::calls::{cut_synced, replace_synced, write_behind, write_synced};
+use kept_file::{Failed, KeptFile, NamedFile};
 
 /// Makes a file ready whose text has so many bytes: cuts away what stands behind the text, and
 /// closes the gate there.
@@ -48,6 +48,13 @@ impl<F: KeptFile> Journal<F> {
             len,
             is_failed: false,
         }
+    }
+
+    /// How many bytes the text has.
+    pub fn len(&self) -> usize
+        ensures { result ≡ self.now.len }
+    {
+        self.len
     }
 
     /// Whether a batch was refused by the file. Then nothing more is done.
@@ -104,6 +111,37 @@ impl<F: KeptFile> Journal<F> {
         match done {
             Ok(()) => self.len = end,
             Err(Failed) => self.is_failed = true,
+        }
+        done
+    }
+}
+
+impl<F: NamedFile> Journal<F> {
+    /// Puts a file of these bytes, which are a text at rest, in the place of the journal's file,
+    /// and tells whether it did. Where the new file can't be made, the journal stays as it is.
+    pub fn replace(&mut self, bytes: &[u8]) -> Result<bool, Failed>
+        requires works { self.old.is_failed ≡ false }
+        requires ready { F.tells → IsReady F.seen F.may_leave self.old }
+        requires rest { (text : List ℕ) × (bytes.now ≡ at_rest text) }
+        ensures ready { F.tells → IsReady F.seen F.may_leave self.new }
+        ensures replaced { F.tells → (text : List ℕ) → bytes.now ≡ at_rest text
+            → IfOk result (λ done. done ≡ true → text_of F.seen self.new ≡ text) }
+        ensures stays { F.tells → IfOk result
+            (λ done. done ≡ false → text_of F.seen self.new ≡ text_of F.seen self.old) }
+
+        // A crash at any moment leaves the old text, or the new one.
+        ensures any_moment { F.tells → (text : List ℕ) → bytes.now ≡ at_rest text
+            → LeavesOnly F.moment F.left_since self.old.file self.new.file
+            (KeepsOneOf (text_of F.seen self.old) text) }
+
+        ensures failed { self.new.is_failed ≡ is_err result }
+        ensures faults { CountsFaults result (F.faults self.old.file) (F.faults self.new.file) }
+    {
+        let done = replace_synced(&mut self.file, bytes);
+        match done {
+            Ok(true) => self.len = bytes.len() - 1,
+            Ok(false) => {}
+            Err(_) => self.is_failed = true,
         }
         done
     }

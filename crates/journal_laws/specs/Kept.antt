@@ -17,8 +17,8 @@ pub record ChangesTheMomentAlone (before after : EntityData) : Type 0 where
   pub same : after ≡ at_moment after.last before
   pub later : before.last ≤ after.last
 
--- An entry stands for what changed an entity: it has the moment of the entity after it, and from the
--- one before it it gives this one. There was memory for it.
+-- An entry stands for what changed an entity: it has the moment of the entity after it, and from
+-- the one before it it gives this one. There was memory for it.
 pub record StandsFor (kept : Entry Event Outcome) (before after : EntityData) : Type 0 where
   pub gives : Step kept.reading kept.event before kept.outcome after
   pub done : IsDone kept.outcome
@@ -26,8 +26,8 @@ pub record StandsFor (kept : Entry Event Outcome) (before after : EntityData) : 
   pub later : before.last ≤ after.last
   pub within : after.last ≤ last_reading
 
--- These are kept of a history that led from an entity to another one: one that stands for each entry
--- which changed more than the moment, in order.
+-- These are kept of a history that led from an entity to another one: one that stands for each
+-- entry which changed more than the moment, in order.
 abbrev pub AreKeptOf : EntityData → History → History → EntityData → Type 0
 AreKeptOf before [] kept after = (kept ≡ []) × (after ≡ before)
 AreKeptOf before (entry ∷ history) kept after = (between : EntityData)

@@ -7,8 +7,9 @@
 //! them.
 //!
 //! ```text
-//! what_is_kept_makes_the_entity(); // has the law as its contract
+//! what_is_kept_makes_the_entity(); // each call has its law as its contract
 //! a_sweep_that_takes_nothing_changes_nothing();
+//! step(alloc, entity, 1_700_000_000, &Event::Tick) // where nothing was due, it isn't kept
 //! ```
 #![tactic(auto)]
 

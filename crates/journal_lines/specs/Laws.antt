@@ -1,5 +1,6 @@
 -- What is written of a deed and of a header is read back as it, whatever stands behind it.
-use Rattle.std.specs.Prelude.{◌≡◌, ◌≢◌, ℕ, ◌+◌, ◌<◌, true, IsTrue, List, ◌++◌, length, Some, Ok, Err}
+use Rattle.std.specs.Prelude.{◌≡◌, ◌≢◌, ℕ, ◌+◌, ◌<◌, true, IsTrue, List, ◌++◌, length, Some, Ok}
+use Rattle.std.specs.Prelude.{Err}
 use Rattle.std.specs.List.{list_all}
 use Rattle.resource_model.specs.Home.{HomeData, IsHome}
 use Rattle.journal_lines.specs.Header.{first_header, header_of}

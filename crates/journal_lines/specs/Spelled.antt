@@ -1,6 +1,7 @@
 -- Texts that spell a header and deeds: what a journal that is read may have in it, whoever wrote
 -- it.
-use Rattle.std.specs.Prelude.{◌≡◌, ℕ, ◌+◌, ◌==◌, Bool, true, not, List, [], ◌∷◌, ◌++◌, length, Ok, Some}
+use Rattle.std.specs.Prelude.{◌≡◌, ℕ, ◌+◌, ◌==◌, Bool, true, not, List, [], ◌∷◌, ◌++◌, length, Ok}
+use Rattle.std.specs.Prelude.{Some}
 use Rattle.std.specs.List.{list_all}
 use Rattle.resource_model.specs.Home.{HomeData}
 use Rattle.journal_lines.specs.Header.{header_spelled}

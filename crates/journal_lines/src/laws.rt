@@ -1,7 +1,8 @@
 //! The laws of the lines.
 ghost use Rattle.journal_lines.specs.Laws.{DeedsAreReadBack, HeadersAreReadBack, LinesHaveOneEnd};
-ghost use Rattle.journal_lines.specs.Laws.{DeedsAreReadAsSpelled, DeedsAreSpelled, OtherHomesAreTold};
+ghost use Rattle.journal_lines.specs.Laws.{DeedsAreReadAsSpelled, DeedsAreSpelled};
 ghost use Rattle.journal_lines.specs.Laws.{HeadersAreReadAsSpelled, HeadersAreSpelled};
+ghost use Rattle.journal_lines.specs.Laws.{OtherHomesAreTold};
 
 /// No byte below 32 stands inside the lines of a deed.
 pub fn lines_have_one_end()

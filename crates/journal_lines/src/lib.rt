@@ -14,10 +14,10 @@
 //! gives none where they are no such lines; callers then name the line.
 //!
 //! ```text
-//! push_header(alloc, &mut text, &home, 1_700_000_000)?; // {"format":1,"home":{..},"opened":1700000000}
+//! push_header(alloc, &mut text, &home, 1_700_000_000)?; // {"format":1,"home":{..},"opened":..}
 //! push_request(alloc, &mut text, 1_700_000_000, &request)?; // @1700000000 and the primitive
 //! push_take(alloc, &mut text, 1_700_000_001)?; // @1700000001 and `take`
-//! let (dated, len) = first_deed(alloc, &mut scratch, &text)?;
+//! let deed = first_deed(alloc, &mut scratch, &text)?; // with the length of its two lines
 //! ```
 #![tactic(auto)]
 

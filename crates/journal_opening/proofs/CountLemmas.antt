@@ -4,7 +4,7 @@ use Rattle.std.specs.Result.{IfErr, IsErrAnd, MatchResult}
 use Rattle.std.specs.declared.result.Result.{Result}
 use Rattle.m2m_io.specs.Counts.{CountsFault, CountsFaults, Rose}
 
-err_same : {T E : Type 0} (r : Result T E) (a b : E) → r ≡ Err a → r ≡ Err b → a ≡ b
+pub err_same : {T E : Type 0} (r : Result T E) (a b : E) → r ≡ Err a → r ≡ Err b → a ≡ b
 err_same r a b one two = cc
 
 ok_err : {T E : Type 0} (r : Result T E) (t : T) (e : E) → r ≡ Ok t → r ≡ Err e → ⊥

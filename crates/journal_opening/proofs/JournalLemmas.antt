@@ -1,11 +1,12 @@
 -- What deeds make, and how a journal grows.
-use Rattle.std.proofs.Common.{◌≡◌, ℕ, ◌<◌, List, [], ◌∷◌, ◌++◌, true, decimal, refl, sym, ap, ◌∙◌, subst, append_assoc}
+use Rattle.std.proofs.Common.{◌≡◌, ℕ, ◌<◌, List, [], ◌∷◌, ◌++◌, true, decimal, inl, inr, refl, sym, ap, ◌∙◌, subst, append_assoc}
 use Rattle.std.proofs.lemmas.List.{append-nil}
 use Rattle.turn_desk.specs.declared.entry.Entry.{Entry}
 use Rattle.primitive_json.specs.declared.request.RequestParts.{RequestParts}
 use Rattle.resource_model.specs.Home.{HomeData, IsHome}
 use Rattle.entity_model.specs.Entity.{EntityData}
 use Rattle.entity_model.specs.Opening.{opening}
+use Rattle.entity_snapshot.specs.Snapshots.{SpellsEntity}
 use Rattle.cse_machine.specs.History.{History, HistoryLeaves, IsDone}
 use Rattle.cse_machine.specs.Step.{Step}
 use Rattle.cse_machine.specs.declared.event.Event.{Event}
@@ -21,6 +22,7 @@ use Rattle.journal_lines.specs.Spelled.{SpellsDeed, SpellsDeeds}
 use Rattle.journal_lines.specs.declared.deed.Dated.{Dated}
 use Rattle.journal_lines.specs.declared.deed.Deed.{Deed}
 use Rattle.journal_lines.specs.declared.deed.Deed.TheVariants as deed
+use Rattle.journal_opening.specs.Snapshots.{IsSnapshot, KeepsMaking}
 use Rattle.journal_opening.specs.Journals.{AreDone, IsJournalOf, SpellsOpening, deed_event, deeds_of, done_at, event_deed, made_by, made_of}
 
 -- ---- what deeds make
@@ -84,8 +86,24 @@ header_opens home opened is short = record {
   front = header_of home opened;
   lines = [];
   split = sym (append-nil (header_of home opened));
-  opens = record { opened = opened; header = headers_spelled home opened is short; opens = refl };
+  opens = inl (record { opened = opened; header = headers_spelled home opened is short; opens = refl });
   spells = refl;
+}
+
+pub snapshot_opens : (e : EntityData) (text : List ℕ) → SpellsEntity e text → IsJournalOf e.home e [] text
+snapshot_opens e text spells = record {
+  front = text;
+  lines = [];
+  split = sym (append-nil text);
+  opens = inr (record { own = refl; spells = spells });
+  spells = refl;
+}
+
+pub snapshot_makes : (e : EntityData) (bytes : List ℕ) → IsSnapshot e bytes → KeepsMaking e.home e bytes
+snapshot_makes e bytes is = record {
+  text = is.text;
+  makes = record { base = e; deeds = []; journal = snapshot_opens e is.text is.spells; made = refl };
+  keeps = record { behind = 10 ∷ []; split = is.rest; shut = refl };
 }
 
 pub journal_grows : (home : HomeData) (base : EntityData) (deeds : List Dated) (text : List ℕ) (moment : ℕ) (d : Deed)

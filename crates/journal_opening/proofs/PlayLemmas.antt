@@ -1,5 +1,5 @@
 -- How far the lines of a journal are played.
-use Rattle.std.proofs.Common.{◌≡◌, ℕ, ◌+◌, ◌-◌, ◌<◌, ◌≤◌, true, false, List, [], ◌∷◌, ◌++◌, length, take, drop, Option, Some, None, IfSome, Ok, refl, sym, ap, ◌∙◌, subst, arith, append_assoc, length-append, length-drop, take-append-drop}
+use Rattle.std.proofs.Common.{◌≡◌, ℕ, ◌+◌, ◌-◌, ◌<◌, ◌≤◌, true, false, List, [], ◌∷◌, ◌++◌, length, take, drop, Option, Some, None, IfSome, Ok, Err, ⊎_elim, ◌⊎◌, inl, inr, refl, sym, ap, ◌∙◌, subst, arith, append_assoc, length-append, length-drop, take-append-drop}
 use Rattle.std.proofs.lemmas.List.{append-nil, drop-drop, drop_at, length-take-le, take_at, take_rest}
 use Rattle.resource_model.specs.Home.{HomeData}
 use Rattle.entity_model.specs.Entity.{EntityData}
@@ -12,10 +12,17 @@ use Rattle.journal_lines.specs.Spelled.{SpellsDeeds, SpellsHeader}
 use Rattle.journal_lines.specs.declared.deed.Dated.{Dated}
 use Rattle.journal_opening.proofs.JournalLemmas.{made_join, spells_join}
 use Rattle.journal_opening.specs.Journals.{IsJournalOf, SpellsOpening, made_by, made_of}
-use Rattle.journal_opening.specs.Opening.{BeginsAs, HaltsBeginning, IsOfMachine, IsRefused, OpensAs, StopsAt, line_number}
+use Rattle.journal_lines.specs.declared.header.HeaderFault.{HeaderFault}
+use Rattle.journal_lines.specs.declared.header.HeaderFault.TheVariants as header
+use Rattle.entity_snapshot.specs.Opening.{IsUnopened}
+use Rattle.entity_snapshot.specs.Reading.{line_number}
+use Rattle.entity_snapshot.specs.Snapshots.{SpellsEntity}
+use Rattle.entity_snapshot.specs.declared.fault.SnapshotFault.{SnapshotFault}
+use Rattle.entity_snapshot.specs.declared.fault.SnapshotFault.TheVariants as snapshot
+use Rattle.journal_opening.specs.Opening.{BeginsAs, HaltsBeginning, IsOfMachine, IsRefused, OpensAs, StopsAt, opening_fault, snapshot_fault}
 use Rattle.journal_opening.specs.Playing.{HaltsAt, HaltsPlaying, Plays, PlaysFirst, ReadsUpTo}
 use Rattle.journal_opening.specs.declared.fault.OpeningFault.{OpeningFault}
-use Rattle.journal_opening.specs.declared.fault.OpeningFault.TheVariants.{NoHeader, OtherFormat, OtherHome, BadLine, Failed, OutOfMemory}
+use Rattle.journal_opening.specs.declared.fault.OpeningFault.TheVariants.{NoHeader, OtherFormat, OtherHome, BadSnapshot, Unsound, BadLine, Failed, OutOfMemory}
 
 -- ---- deeds, one after another
 
@@ -99,9 +106,41 @@ header_first home opened bytes len found size within =
     let front : take len bytes ≡ begins.front =
     ap (λ (l : List ℕ). take len l) begins.split ∙ take_at begins.front begins.back len (begins.len ∙ sym size) in
     record {
-      opens = record { opened = opened; header = subst (SpellsHeader home opened) (sym front) begins.spells; opens = refl };
+      opens = inl (record { opened = opened; header = subst (SpellsHeader home opened) (sym front) begins.spells; opens = refl });
       within = within;
     }
+
+-- so many bytes at the front are a snapshot
+pub snapshot_first : (home : HomeData) (base : EntityData) (bytes : List ℕ) (len : ℕ) → base.home ≡ home → SpellsEntity base (take len bytes) → len ≤ length bytes
+    → BeginsAs home bytes len base
+snapshot_first home base bytes len own spells within = record { opens = inr (record { own = own; spells = spells }); within = within }
+
+-- ---- why nothing begins
+
+told_so : {P : Type 0} (fault other : HeaderFault) → (fault ≡ other → ⊥) → (fault ≡ other) ⊎ P → P
+told_so fault other differ told = ⊎_elim (λ same. absurd (differ same)) (λ p. p) told
+
+-- a fault of the first line that isn't the want of a header
+pub halts_by_header : (home : HomeData) (bytes : List ℕ) (fault : HeaderFault) → (fault ≡ header.OutOfMemory) ⊎ (first_header home bytes ≡ Err fault)
+    → (fault ≡ header.NoHeader → ⊥) → HaltsBeginning home bytes (opening_fault fault)
+halts_by_header home bytes header.NoHeader told other = absurd (other refl)
+halts_by_header home bytes header.OtherFormat told other = inl (told_so header.OtherFormat header.OutOfMemory (λ same. cc) told)
+halts_by_header home bytes header.OtherHome told other = inl (told_so header.OtherHome header.OutOfMemory (λ same. cc) told)
+halts_by_header home bytes header.OutOfMemory told other = tt
+
+-- a fault of what stands there in place of a header
+pub halts_by_snapshot : (home : HomeData) (bytes : List ℕ) (fault : SnapshotFault) → first_header home bytes ≡ Err header.NoHeader → IsUnopened home bytes fault
+    → HaltsBeginning home bytes (snapshot_fault fault)
+halts_by_snapshot home bytes snapshot.NoHeader none by = (none, by)
+halts_by_snapshot home bytes snapshot.OtherFormat none by = inr (none, by)
+halts_by_snapshot home bytes snapshot.OtherHome none by = inr (none, by)
+halts_by_snapshot home bytes (snapshot.BadLine number) none by = (none, by)
+halts_by_snapshot home bytes snapshot.Unsound none by = (none, by)
+halts_by_snapshot home bytes snapshot.OutOfMemory none by = tt
+
+-- no header is there where it says so
+pub told_none : (home : HomeData) (bytes : List ℕ) → (header.NoHeader ≡ header.OutOfMemory) ⊎ (first_header home bytes ≡ Err header.NoHeader) → first_header home bytes ≡ Err header.NoHeader
+told_none home bytes told = told_so header.NoHeader header.OutOfMemory (λ same. cc) told
 
 -- a text up to a place is what stands in front of another place, and then what stands between the two
 module _ (home : HomeData) (bytes : List ℕ) (from at : ℕ) (base : EntityData) (begins : BeginsAs home bytes from base) where
@@ -144,6 +183,8 @@ pub refused_first : (home : HomeData) (bytes : List ℕ) (fault : OpeningFault) 
 refused_first home bytes NoHeader said = said
 refused_first home bytes OtherFormat said = said
 refused_first home bytes OtherHome said = said
+refused_first home bytes (BadSnapshot number) said = said
+refused_first home bytes Unsound said = said
 refused_first home bytes (BadLine number) said = absurd said
 refused_first home bytes Failed said = tt
 refused_first home bytes OutOfMemory said = tt
@@ -153,6 +194,8 @@ pub refused_then : (home : HomeData) (bytes : List ℕ) (from : ℕ) (base : Ent
 refused_then home bytes from base NoHeader begins said = absurd said
 refused_then home bytes from base OtherFormat begins said = absurd said
 refused_then home bytes from base OtherHome begins said = absurd said
+refused_then home bytes from base (BadSnapshot number) begins said = absurd said
+refused_then home bytes from base Unsound begins said = absurd said
 refused_then home bytes from base (BadLine number) begins (at, halts, is) = (at, stops_at home bytes from at base begins halts, is)
 refused_then home bytes from base Failed begins said = tt
 refused_then home bytes from base OutOfMemory begins said = tt
@@ -161,6 +204,8 @@ pub refused_by_machine : (home : HomeData) (bytes : List ℕ) (fault : OpeningFa
 refused_by_machine home bytes NoHeader said = absurd said
 refused_by_machine home bytes OtherFormat said = absurd said
 refused_by_machine home bytes OtherHome said = absurd said
+refused_by_machine home bytes (BadSnapshot number) said = absurd said
+refused_by_machine home bytes Unsound said = absurd said
 refused_by_machine home bytes (BadLine number) said = absurd said
 refused_by_machine home bytes Failed said = tt
 refused_by_machine home bytes OutOfMemory said = tt

@@ -14,11 +14,18 @@ use Rattle.journal_lines.specs.Spelled.{SpellsDeed, SpellsDeeds}
 use Rattle.journal_lines.specs.declared.deed.Dated.{Dated}
 use Rattle.journal_lines.specs.declared.header.HeaderFault.{HeaderFault}
 use Rattle.journal_lines.specs.declared.header.HeaderFault.TheVariants as header
-use Rattle.journal_opening.specs.Journals.{IsJournalOf, Makes, SpellsOpening, made_of}
+use Rattle.entity_lines.specs.Heads.{first_head}
+use Rattle.entity_snapshot.specs.Snapshots.{entity_head}
+use Rattle.entity_snapshot.proofs.HeadLemmas.{no_header}
+use Rattle.entity_snapshot.proofs.SnapshotLemmas.{head_there, one_entity}
+use Rattle.journal_opening.specs.Journals.{IsJournalOf, Makes, SpellsFirst, SpellsOpening, SpellsSnapshot, made_of}
 use Rattle.journal_opening.specs.Laws.{JournalsOpenAsTheirDeeds}
-use Rattle.journal_opening.specs.Opening.{IsOfMachine, IsRefused, OpensAs, StopsAt}
+use Rattle.entity_snapshot.proofs.RefusalLemmas.{none_refused}
+use Rattle.entity_snapshot.specs.declared.fault.SnapshotFault.{SnapshotFault}
+use Rattle.entity_snapshot.specs.declared.fault.SnapshotFault.TheVariants as snapshot
+use Rattle.journal_opening.specs.Opening.{IsNoSnapshot, IsOfMachine, IsRefused, OpensAs, StopsAt}
 use Rattle.journal_opening.specs.declared.fault.OpeningFault.{OpeningFault}
-use Rattle.journal_opening.specs.declared.fault.OpeningFault.TheVariants.{NoHeader, OtherFormat, OtherHome, BadLine, Failed, OutOfMemory}
+use Rattle.journal_opening.specs.declared.fault.OpeningFault.TheVariants.{NoHeader, OtherFormat, OtherHome, BadSnapshot, Unsound, BadLine, Failed, OutOfMemory}
 
 -- ---- a deed stands behind an open gate
 
@@ -121,9 +128,9 @@ record SameOpening (base other : EntityData) (front front1 rest rest1 : List ℕ
   fronts : front1 ≡ front
   rests : rest1 ≡ rest
 
-same_opening : (home : HomeData) (base other : EntityData) (front front1 rest rest1 : List ℕ) → SpellsOpening home base front → SpellsOpening home other front1
+same_first : (home : HomeData) (base other : EntityData) (front front1 rest rest1 : List ℕ) → SpellsFirst home base front → SpellsFirst home other front1
     → front ++ rest ≡ front1 ++ rest1 → SameOpening base other front front1 rest rest1
-same_opening home base other front front1 rest rest1 opens opens1 whole =
+same_first home base other front front1 rest rest1 opens opens1 whole =
     let one = header_read home opens.opened front rest opens.header in
     let two = header_read home opens1.opened front1 rest1 opens1.header in
     let size : length front1 ≡ length front = sym two.1 ∙ ap (λ (l : List ℕ). line_len l + 1) (sym whole) ∙ one.1 in
@@ -133,6 +140,59 @@ same_opening home base other front front1 rest rest1 opens opens1 whole =
       fronts = fronts_same front front1 rest rest1 whole size;
       rests = rests_same front front1 rest rest1 whole size;
     }
+
+same_snapshot : (home : HomeData) (base other : EntityData) (front front1 rest rest1 : List ℕ) → SpellsSnapshot home base front → SpellsSnapshot home other front1
+    → front ++ rest ≡ front1 ++ rest1 → SameOpening base other front front1 rest rest1
+same_snapshot home base other front front1 rest rest1 kept kept1 whole =
+    let same = one_entity base other front front1 rest rest1 kept.spells kept1.spells (kept.own ∙ sym kept1.own) whole in
+    record {
+      bases = sym same.0;
+      fronts = sym same.1;
+      rests = rests_same front front1 rest rest1 whole (ap length (sym same.1));
+    }
+
+-- the head of a snapshot at the front of a text
+head_of_home : (home : HomeData) (base : EntityData) (front rest : List ℕ) → SpellsSnapshot home base front → first_head home (front ++ rest) ≡ Ok (entity_head base)
+head_of_home home base front rest kept = ap (λ (h : HomeData). first_head h (front ++ rest)) (sym kept.own) ∙ head_there base front rest kept.spells
+
+-- no text begins with both
+never_both : (home : HomeData) (base other : EntityData) (front front1 rest rest1 : List ℕ) → SpellsFirst home base front → SpellsSnapshot home other front1
+    → front ++ rest ≡ front1 ++ rest1 → ⊥
+never_both home base other front front1 rest rest1 opens kept whole =
+    let one = (header_read home opens.opened front rest opens.header).0 in
+    let none = no_header home (entity_head other) (front1 ++ rest1) (head_of_home home other front1 rest1 kept) in
+    let both : Ok opens.opened ≡ Err header.NoHeader = sym one ∙ ap (first_header home) whole ∙ none in
+    cc
+
+same_opening : (home : HomeData) (base other : EntityData) (front front1 rest rest1 : List ℕ) → SpellsOpening home base front → SpellsOpening home other front1
+    → front ++ rest ≡ front1 ++ rest1 → SameOpening base other front front1 rest rest1
+same_opening home base other front front1 rest rest1 (inl opens) (inl opens1) whole = same_first home base other front front1 rest rest1 opens opens1 whole
+same_opening home base other front front1 rest rest1 (inr kept) (inr kept1) whole = same_snapshot home base other front front1 rest rest1 kept kept1 whole
+same_opening home base other front front1 rest rest1 (inl opens) (inr kept1) whole = absurd (never_both home base other front front1 rest rest1 opens kept1 whole)
+same_opening home base other front front1 rest rest1 (inr kept) (inl opens1) whole = absurd (never_both home other base front1 front rest1 rest opens1 kept (sym whole))
+
+-- ---- why a text that says with which entity a journal begins isn't refused
+
+ok_never_err : {A E : Type 0} (r : Result A E) (x : A) (fault : E) → r ≡ Ok x → r ≡ Err fault → ⊥
+ok_never_err r x fault ok err = cc
+
+err_alike : {A E : Type 0} (r : Result A E) (one other : E) → r ≡ Err one → r ≡ Err other → one ≡ other
+err_alike r one other first second = cc
+
+-- a header that is refused would be none
+none_refused_first : (home : HomeData) (base : EntityData) (front rest : List ℕ) (fault : HeaderFault) → SpellsOpening home base front → first_header home (front ++ rest) ≡ Err fault
+    → fault ≡ header.NoHeader
+none_refused_first home base front rest fault (inl opens) err =
+    absurd (ok_never_err (first_header home (front ++ rest)) opens.opened fault (header_read home opens.opened front rest opens.header).0 err)
+none_refused_first home base front rest fault (inr kept) err =
+    err_alike (first_header home (front ++ rest)) fault header.NoHeader err (no_header home (entity_head base) (front ++ rest) (head_of_home home base front rest kept))
+
+-- a snapshot that is refused would be one for which there is no memory
+none_refused_behind : (home : HomeData) (base : EntityData) (front rest : List ℕ) (fault : SnapshotFault) → SpellsOpening home base front → IsNoSnapshot home (front ++ rest) fault
+    → fault ≡ snapshot.OutOfMemory
+none_refused_behind home base front rest fault (inl opens) none =
+    absurd (ok_never_err (first_header home (front ++ rest)) opens.opened header.NoHeader (header_read home opens.opened front rest opens.header).0 none.0)
+none_refused_behind home base front rest fault (inr kept) none = none_refused home (front ++ rest) base front rest kept.spells kept.own refl fault none.1
 
 -- ---- a file that keeps a journal
 
@@ -168,12 +228,14 @@ module _ (home : HomeData) (base : EntityData) (deeds : List Dated) (text bytes 
     none_stuck : is_shut left ≡ false → first_deed left ≡ None → ⊥
     none_stuck counts never = never_stuck deeds others journal.lines read.lines keeps.behind left journal.spells read.spells (sym first_same.rests) keeps.shut counts never
 
-  header_there : (fault : HeaderFault) → first_header home bytes ≡ Err fault → ⊥
-  header_there fault err =
-      let opens = journal.opens in
-      let found = header_read home opens.opened journal.front (journal.lines ++ keeps.behind) opens.header in
-      let is : Ok opens.opened ≡ Err fault = sym found.0 ∙ ap (first_header home) (sym apart) ∙ err in
-      cc
+  first_there : (fault : HeaderFault) → first_header home bytes ≡ Err fault → fault ≡ header.NoHeader
+  first_there fault err =
+      none_refused_first home base journal.front (journal.lines ++ keeps.behind) fault journal.opens (ap (first_header home) (sym apart) ∙ err)
+
+  snapshot_there : (fault : SnapshotFault) → IsNoSnapshot home bytes fault → fault ≡ snapshot.OutOfMemory
+  snapshot_there fault none =
+      none_refused_behind home base journal.front (journal.lines ++ keeps.behind) fault journal.opens
+      (subst (λ (l : List ℕ). IsNoSnapshot home l fault) apart none)
 
   -- what is opened is the text
   pub text_opened : (len : ℕ) (e : EntityData) → OpensAs home bytes len e → take len bytes ≡ text
@@ -186,9 +248,13 @@ module _ (home : HomeData) (base : EntityData) (deeds : List Dated) (text bytes 
   )
 
   refused : (fault : OpeningFault) → IsRefused home bytes fault → IsOfMachine fault
-  refused NoHeader err = header_there header.NoHeader err
-  refused OtherFormat err = header_there header.OtherFormat err
-  refused OtherHome err = header_there header.OtherHome err
+  refused NoHeader none = (let is : snapshot.NoHeader ≡ snapshot.OutOfMemory = snapshot_there snapshot.NoHeader none in cc)
+  refused OtherFormat (inl err) = (let is : header.OtherFormat ≡ header.NoHeader = first_there header.OtherFormat err in cc)
+  refused OtherFormat (inr none) = (let is : snapshot.OtherFormat ≡ snapshot.OutOfMemory = snapshot_there snapshot.OtherFormat none in cc)
+  refused OtherHome (inl err) = (let is : header.OtherHome ≡ header.NoHeader = first_there header.OtherHome err in cc)
+  refused OtherHome (inr none) = (let is : snapshot.OtherHome ≡ snapshot.OutOfMemory = snapshot_there snapshot.OtherHome none in cc)
+  refused (BadSnapshot number) none = (let is : snapshot.BadLine number ≡ snapshot.OutOfMemory = snapshot_there (snapshot.BadLine number) none in cc)
+  refused Unsound none = (let is : snapshot.Unsound ≡ snapshot.OutOfMemory = snapshot_there snapshot.Unsound none in cc)
   refused (BadLine number) (place, stops, is) = none_stuck stops.base stops.deeds place stops.journal stops.counts stops.none
   refused Failed said = tt
   refused OutOfMemory said = tt

@@ -1,5 +1,5 @@
 -- What a journal is, and the entity that it makes.
-use Rattle.std.specs.Prelude.{◌≡◌, ℕ, List, [], ◌∷◌, ◌++◌, map, ⊤}
+use Rattle.std.specs.Prelude.{◌≡◌, ◌⊎◌, ℕ, List, [], ◌∷◌, ◌++◌, map, ⊤}
 use Rattle.turn_desk.specs.declared.entry.Entry.{Entry}
 use Rattle.resource_model.specs.Home.{HomeData}
 use Rattle.entity_model.specs.Entity.{EntityData, swept, without_next}
@@ -14,6 +14,7 @@ use Rattle.journal_lines.specs.Spelled.{SpellsDeeds, SpellsHeader}
 use Rattle.journal_lines.specs.declared.deed.Dated.{Dated}
 use Rattle.journal_lines.specs.declared.deed.Deed.{Deed}
 use Rattle.journal_lines.specs.declared.deed.Deed.TheVariants.{Ask, Take, Tick}
+use Rattle.entity_snapshot.specs.Snapshots.{SpellsEntity}
 
 -- ---- what deeds make
 
@@ -56,12 +57,20 @@ AreDone (entry ∷ history) = IsDone entry.outcome × AreDone history
 
 -- ---- journals
 
--- A text says with which entity a journal of this home begins: it is a header, whose entity is the
--- one that opens at its reading.
-pub record SpellsOpening (home : HomeData) (base : EntityData) (text : List ℕ) : Type 0 where
+-- A text is a header, whose entity is the one that opens at its reading.
+pub record SpellsFirst (home : HomeData) (base : EntityData) (text : List ℕ) : Type 0 where
   pub opened : ℕ
   pub header : SpellsHeader home opened text
   pub opens : base ≡ opening home opened
+
+-- A text is the snapshot of an entity of this home.
+pub record SpellsSnapshot (home : HomeData) (base : EntityData) (text : List ℕ) : Type 0 where
+  pub own : base.home ≡ home
+  pub spells : SpellsEntity base text
+
+-- A text says with which entity a journal of this home begins: it is a header, or a snapshot.
+abbrev pub SpellsOpening : HomeData → EntityData → List ℕ → Type 0
+SpellsOpening home base text = SpellsFirst home base text ⊎ SpellsSnapshot home base text
 
 -- A text is the journal of a home: it says with which entity it begins, and behind that it is the
 -- lines of these deeds.

@@ -3,13 +3,14 @@ use Rattle.std.specs.Prelude.{◌≡◌, ℕ, ◌<◌, List, [], ◌∷◌, ◌+
 use Rattle.resource_model.specs.Home.{HomeData, IsHome}
 use Rattle.entity_model.specs.Entity.{EntityData}
 use Rattle.entity_model.specs.Opening.{opening}
+use Rattle.entity_snapshot.specs.Snapshots.{SpellsEntity}
 use Rattle.cse_machine.specs.History.{History, HistoryLeaves}
 use Rattle.journal_file.specs.Gates.{KeepsText, is_batch}
 use Rattle.journal_lines.specs.Header.{header_of}
 use Rattle.journal_lines.specs.Lines.{IsReadBack, deed_at, lines_of, moment_bound}
 use Rattle.journal_lines.specs.declared.deed.Dated.{Dated}
 use Rattle.journal_lines.specs.declared.deed.Deed.{Deed}
-use Rattle.journal_opening.specs.Journals.{AreDone, IsJournalOf, deeds_of, made_by, made_of}
+use Rattle.journal_opening.specs.Journals.{AreDone, IsJournalOf, Makes, deeds_of, made_by, made_of}
 use Rattle.journal_opening.specs.Opening.{IsOfMachine, IsRefused, OpensAs}
 use Rattle.journal_opening.specs.declared.fault.OpeningFault.{OpeningFault}
 
@@ -17,6 +18,16 @@ use Rattle.journal_opening.specs.declared.fault.OpeningFault.{OpeningFault}
 abbrev pub HeadersAreJournals : Type 0
 HeadersAreJournals = (home : HomeData) (opened : ℕ) → IsHome home → opened < moment_bound
     → IsJournalOf home (opening home opened) [] (header_of home opened)
+
+-- The snapshot of an entity is a journal of its home: of no deeds, so that it makes the entity.
+abbrev pub SnapshotsAreJournals : Type 0
+SnapshotsAreJournals = (e : EntityData) (text : List ℕ) → SpellsEntity e text
+    → IsJournalOf e.home e [] text
+
+-- What a journal of a home makes is an entity of that home.
+abbrev pub JournalsStayAtTheirHome : Type 0
+JournalsStayAtTheirHome = (home : HomeData) (text : List ℕ) (e : EntityData) → Makes home text e
+    → e.home ≡ home
 
 -- The lines of one deed more make a journal of one deed more.
 abbrev pub JournalsGrow : Type 0

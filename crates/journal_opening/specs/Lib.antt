@@ -2,3 +2,4 @@ pub mod Journals
 pub mod Laws
 pub mod Opening
 pub mod Playing
+pub mod Snapshots

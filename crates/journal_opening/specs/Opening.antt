@@ -1,5 +1,5 @@
 -- What comes of opening the bytes of a journal's file.
-use Rattle.std.specs.Prelude.{◌≡◌, ℕ, ◌+◌, ◌<◌, ◌≤◌, ◌==◌, false, true, List, [], length, take, drop, count_by}
+use Rattle.std.specs.Prelude.{◌≡◌, ◌⊎◌, ℕ, ◌<◌, ◌≤◌, false, true, List, [], length, take, drop}
 use Rattle.std.specs.Prelude.{Err, None, ⊤}
 use Rattle.std.specs.declared.result.Result.{Result}
 use Rattle.resource_model.specs.Home.{HomeData}
@@ -11,15 +11,16 @@ use Rattle.journal_lines.specs.Lines.{first_deed}
 use Rattle.journal_lines.specs.declared.deed.Dated.{Dated}
 use Rattle.journal_lines.specs.declared.header.HeaderFault.TheVariants as header
 use Rattle.journal_lines.specs.declared.header.HeaderFault.{HeaderFault}
+use Rattle.entity_snapshot.specs.Opening.{IsUnopened}
+use Rattle.entity_snapshot.specs.Reading.{line_number}
+use Rattle.entity_snapshot.specs.declared.fault.SnapshotFault.TheVariants as snapshot
+use Rattle.entity_snapshot.specs.declared.fault.SnapshotFault.{SnapshotFault}
 use Rattle.journal_opening.specs.Journals.{IsJournalOf, Makes, SpellsOpening}
 use Rattle.journal_opening.specs.declared.fault.OpeningFault.{OpeningFault}
 use Rattle.journal_opening.specs.declared.fault.OpeningFault.TheVariants.{NoHeader, OtherFormat}
 use Rattle.journal_opening.specs.declared.fault.OpeningFault.TheVariants.{OtherHome, BadLine}
+use Rattle.journal_opening.specs.declared.fault.OpeningFault.TheVariants.{BadSnapshot, Unsound}
 use Rattle.journal_opening.specs.declared.fault.OpeningFault.TheVariants.{Failed, OutOfMemory}
-
--- the number of the line that begins at a place, from 1
-abbrev pub line_number : List ℕ → ℕ → ℕ
-line_number bytes place = count_by (λ b. b == 10) (take place bytes) + 1
 
 -- The bytes are those of a file that keeps a text of so many bytes, which makes this entity.
 pub record OpensAs (home : HomeData) (bytes : List ℕ) (len : ℕ) (e : EntityData) : Type 0 where
@@ -37,12 +38,21 @@ pub record StopsAt (home : HomeData) (bytes : List ℕ) (place : ℕ) : Type 0 w
   pub counts : is_shut (drop place bytes) ≡ false
   pub none : first_deed (drop place bytes) ≡ None
 
--- The bytes are refused for this reason: by their first line, or at the line of this number. That
--- the file fails or memory runs out says nothing of them.
+-- The first line is no header, and no snapshot is opened at the bytes for this reason.
+abbrev pub IsNoSnapshot : HomeData → List ℕ → SnapshotFault → Type 0
+IsNoSnapshot home bytes fault =
+    (first_header home bytes ≡ Err header.NoHeader) × IsUnopened home bytes fault
+
+-- The bytes are refused for this reason: by their first line, by the snapshot that they begin with,
+-- or at the line of this number. That the file fails or memory runs out says nothing of them.
 abbrev pub IsRefused : HomeData → List ℕ → OpeningFault → Type 0
-IsRefused home bytes NoHeader = first_header home bytes ≡ Err header.NoHeader
-IsRefused home bytes OtherFormat = first_header home bytes ≡ Err header.OtherFormat
-IsRefused home bytes OtherHome = first_header home bytes ≡ Err header.OtherHome
+IsRefused home bytes NoHeader = IsNoSnapshot home bytes snapshot.NoHeader
+IsRefused home bytes OtherFormat = (first_header home bytes ≡ Err header.OtherFormat)
+    ⊎ IsNoSnapshot home bytes snapshot.OtherFormat
+IsRefused home bytes OtherHome = (first_header home bytes ≡ Err header.OtherHome)
+    ⊎ IsNoSnapshot home bytes snapshot.OtherHome
+IsRefused home bytes (BadSnapshot number) = IsNoSnapshot home bytes (snapshot.BadLine number)
+IsRefused home bytes Unsound = IsNoSnapshot home bytes snapshot.Unsound
 IsRefused home bytes (BadLine number) =
     (place : ℕ) × StopsAt home bytes place × (number ≡ line_number bytes place)
 IsRefused home bytes Failed = ⊤
@@ -53,6 +63,8 @@ abbrev pub IsOfMachine : OpeningFault → Type 0
 IsOfMachine NoHeader = ⊥
 IsOfMachine OtherFormat = ⊥
 IsOfMachine OtherHome = ⊥
+IsOfMachine (BadSnapshot number) = ⊥
+IsOfMachine Unsound = ⊥
 IsOfMachine (BadLine number) = ⊥
 IsOfMachine Failed = ⊤
 IsOfMachine OutOfMemory = ⊤
@@ -64,16 +76,33 @@ opening_fault header.OtherFormat = OtherFormat
 opening_fault header.OtherHome = OtherHome
 opening_fault header.OutOfMemory = OutOfMemory
 
+-- the fault of a snapshot as that of an opening
+abbrev pub snapshot_fault : SnapshotFault → OpeningFault
+snapshot_fault snapshot.NoHeader = NoHeader
+snapshot_fault snapshot.OtherFormat = OtherFormat
+snapshot_fault snapshot.OtherHome = OtherHome
+snapshot_fault (snapshot.BadLine number) = BadSnapshot number
+snapshot_fault snapshot.Unsound = Unsound
+snapshot_fault snapshot.OutOfMemory = OutOfMemory
+
 -- So many bytes at the front say with which entity a journal of this home begins.
 pub record BeginsAs (home : HomeData) (bytes : List ℕ) (len : ℕ) (base : EntityData) : Type 0 where
   pub opens : SpellsOpening home base (take len bytes)
   pub within : len ≤ length bytes
 
+-- So many bytes at the front say it, whichever entity it is.
+abbrev pub HasFront : HomeData → List ℕ → ℕ → Type 0
+HasFront home bytes len = (base : EntityData) × BeginsAs home bytes len base
+
 -- why a journal isn't begun
 abbrev pub HaltsBeginning : HomeData → List ℕ → OpeningFault → Type 0
-HaltsBeginning home bytes NoHeader = first_header home bytes ≡ Err header.NoHeader
-HaltsBeginning home bytes OtherFormat = first_header home bytes ≡ Err header.OtherFormat
-HaltsBeginning home bytes OtherHome = first_header home bytes ≡ Err header.OtherHome
+HaltsBeginning home bytes NoHeader = IsNoSnapshot home bytes snapshot.NoHeader
+HaltsBeginning home bytes OtherFormat = (first_header home bytes ≡ Err header.OtherFormat)
+    ⊎ IsNoSnapshot home bytes snapshot.OtherFormat
+HaltsBeginning home bytes OtherHome = (first_header home bytes ≡ Err header.OtherHome)
+    ⊎ IsNoSnapshot home bytes snapshot.OtherHome
+HaltsBeginning home bytes (BadSnapshot number) = IsNoSnapshot home bytes (snapshot.BadLine number)
+HaltsBeginning home bytes Unsound = IsNoSnapshot home bytes snapshot.Unsound
 HaltsBeginning home bytes (BadLine number) = ⊥
 HaltsBeginning home bytes Failed = ⊥
 HaltsBeginning home bytes OutOfMemory = ⊤

@@ -6,10 +6,11 @@ use Rattle.journal_lines.specs.Lines.{deed_len, first_deed}
 use Rattle.journal_lines.specs.Spelled.{SpellsDeeds}
 use Rattle.journal_lines.specs.declared.deed.Dated.{Dated}
 use Rattle.journal_opening.specs.Journals.{made_by, made_of}
-use Rattle.journal_opening.specs.Opening.{line_number}
+use Rattle.entity_snapshot.specs.Reading.{line_number}
 use Rattle.journal_opening.specs.declared.fault.OpeningFault.{OpeningFault}
 use Rattle.journal_opening.specs.declared.fault.OpeningFault.TheVariants.{NoHeader, OtherFormat}
 use Rattle.journal_opening.specs.declared.fault.OpeningFault.TheVariants.{OtherHome, BadLine}
+use Rattle.journal_opening.specs.declared.fault.OpeningFault.TheVariants.{BadSnapshot, Unsound}
 use Rattle.journal_opening.specs.declared.fault.OpeningFault.TheVariants.{Failed, OutOfMemory}
 
 -- The bytes between two places are the lines of these deeds.
@@ -47,6 +48,8 @@ abbrev pub HaltsPlaying : List ℕ → ℕ → OpeningFault → Type 0
 HaltsPlaying bytes from NoHeader = ⊥
 HaltsPlaying bytes from OtherFormat = ⊥
 HaltsPlaying bytes from OtherHome = ⊥
+HaltsPlaying bytes from (BadSnapshot number) = ⊥
+HaltsPlaying bytes from Unsound = ⊥
 HaltsPlaying bytes from (BadLine number) =
     (at : ℕ) × HaltsAt bytes from at × (number ≡ line_number bytes at)
 HaltsPlaying bytes from Failed = ⊥

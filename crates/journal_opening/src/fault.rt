@@ -7,12 +7,17 @@ use std::alloc::AllocError;
 /// Why a journal isn't opened.
 #[derive(Clone, Copy, Debug, PartialEq, Eq)]
 pub enum OpeningFault {
-    /// The first line is none of a journal.
+    /// The first line is none of a journal, and none of a snapshot.
     NoHeader,
     /// It is a journal of another format.
     OtherFormat,
     /// It is the journal of another home.
     OtherHome,
+    /// At the line of this number, from 1, the snapshot that it begins with has no resource or item
+    /// that fits behind those before it.
+    BadSnapshot(usize),
+    /// The snapshot that it begins with is that of no sound entity.
+    Unsound,
     /// At the line of this number, from 1, no deed begins, but the journal goes on.
     BadLine(usize),
     /// The file failed: its count of faults rose in the call.

@@ -6,8 +6,13 @@
 //! or of another format, and one with a line that is no deed, is refused; its file then has each
 //! byte that it had. Opening may be cut off at any moment: the file keeps the same journal.
 //!
-//! `first_text` gives what a new journal's file has in it. Who appends the lines of a deed to a
-//! journal has a journal of one deed more; the laws of this crate say so.
+//! A journal begins with a header, and with the entity of a home that opens; or it begins with the
+//! snapshot of an entity of that home, which whoever replaced it by a shorter one has written. The
+//! lines of deeds stand behind either. `play_file` gives the entity and leaves the file as it is.
+//!
+//! `first_text` gives what a new journal's file has in it, and `snapshot_bytes` what one has in it
+//! that was replaced by the snapshot of an entity. Who appends the lines of a deed to a journal has
+//! a journal of one deed more; the laws of this crate say so.
 //!
 //! ```text
 //! let first = first_text(alloc, &home, clock.now())?;
@@ -23,7 +28,11 @@ mod laws;
 mod opening;
 mod playing;
 
+pub use entity_snapshot::LineFault;
 pub use fault::OpeningFault;
-pub use first::first_text;
-pub use laws::{a_journal_opens_as_its_deeds, deeds_make_an_entity, journals_grow};
-pub use opening::{Played, play_back};
+pub use first::{first_text, snapshot_bytes};
+pub use laws::{
+    a_journal_opens_as_its_deeds, a_journal_stays_at_its_home, a_snapshot_is_a_journal,
+    deeds_make_an_entity, journals_grow,
+};
+pub use opening::{Played, play_back, play_file};

@@ -4,7 +4,7 @@ ghost use Rattle.std.specs.Prelude.{true, ◌==◌, count_by};
 ghost use Rattle.journal_file.specs.Gates as gates;
 ghost use Rattle.journal_lines.specs.Lines.{first_deed};
 ghost use Rattle.journal_opening.specs.Journals as spec;
-ghost use Rattle.journal_opening.specs.Opening.{line_number};
+ghost use Rattle.entity_snapshot.specs.Reading.{line_number};
 ghost use Rattle.journal_opening.specs.Playing.{HaltsPlaying, Plays, PlaysFirst};
 
 use crate::fault::OpeningFault;

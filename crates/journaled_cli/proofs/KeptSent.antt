@@ -30,7 +30,7 @@ module _ (F : RattleType) (g : Ghosts F.Denot) (f : IsSend F) where
 
   kept_inside_send : IsSend (kept_inside.the_row (journaled.the_row index_tree.the_row index_tree_impl.ghosts) F g)
   kept_inside_send = declared_send (kept_inside.the_type (journaled.the_row index_tree.the_row index_tree_impl.ghosts) F g)
-      (search (sendable, crosses, journaled_send) depth 20, (search (sendable, crosses, journal_send) depth 20, (search (sendable, crosses) depth 20, tt)))
+      (search (sendable, crosses, journaled_send) depth 20, (search (sendable, crosses, journal_send) depth 20, (search (sendable, crosses) depth 20, (search (sendable, crosses) depth 20, tt))))
 
   pub kept_send : IsSend (kept.the_row (journaled.the_row index_tree.the_row index_tree_impl.ghosts) F g)
   kept_send = record { owned = λ d vs x. (kept_inside_send.owned x.0 vs, tt); leaving = λ k d w. tt }

@@ -1,3 +1,4 @@
 pub mod KeptSent
 pub mod RunLemmas
 pub mod ServedLemmas
+pub mod SnapshotLemmas

@@ -1,3 +1,4 @@
 pub mod Words
 pub mod Saying
 pub mod Run
+pub mod Snapshot

@@ -1,5 +1,5 @@
 -- What the commands `http` and `serve` do over a journal.
-use Rattle.std.specs.Prelude.{◌≡◌, ◌⊎◌, ℕ, ◌+◌, max, take, Bool, List, Option, Some, None}
+use Rattle.std.specs.Prelude.{◌≡◌, ◌≢◌, ◌⊎◌, ℕ, ◌+◌, max, take, Bool, List, Option, Some, None}
 use Rattle.std.specs.Prelude.{if◌then◌else◌}
 use Rattle.std.specs.declared.alloc.AllocError.{AllocError}
 use Rattle.std.specs.declared.result.Result.{Result}
@@ -8,18 +8,20 @@ use Rattle.m2m_io.specs.declared.status.Status.TheVariants.{BadStream, Done, Mem
 use Rattle.m2m_io.specs.declared.status.Status.TheVariants.{Usage, WriteFault}
 use Rattle.turn_desk.specs.Entries.{Marked}
 use Rattle.turn_desk.specs.Growth.{IsOwnRun}
+use Rattle.kept_desk.specs.Kept.{KeptGrown}
+use Rattle.kept_desk.specs.declared.turn.Answer.{Answer}
 use Rattle.kept_desk.specs.declared.turn.Turn.{Turn}
 use Rattle.kept_desk.specs.declared.turn.Report.{Report}
 use Rattle.kept_object.specs.State.{KeptData}
 use Rattle.kept_object.specs.Steps.{KeptStep}
 use Rattle.resource_model.specs.Home.{HomeData}
 use Rattle.entity_model.specs.Entity.{EntityData}
-use Rattle.cse_machine.specs.Step.{Step}
-use Rattle.cse_machine.specs.declared.event.Event.{Event}
-use Rattle.cse_machine.specs.declared.event.Outcome.{Outcome}
+use Rattle.journal_events.specs.Steps.{KeptEntityStep}
+use Rattle.journal_events.specs.declared.event.KeptEvent.{KeptEvent}
+use Rattle.journal_events.specs.declared.event.KeptOutcome.{KeptOutcome}
 use Rattle.cse_server.specs.Connection.{Serves}
-use Rattle.cse_server.specs.Outside.{Outside}
-use Rattle.cse_server.specs.Sending.{SendsItems}
+use Rattle.cse_server.specs.Outside.{LinkTold, Outside, outside, sink_told}
+use Rattle.cse_server.specs.declared.bench.Bench.{Bench}
 use Rattle.cse_server.specs.declared.connection.Ended.{Ended}
 use Rattle.cse_server.specs.declared.connection.Ended.TheVariants.{Closed, NoFrame}
 use Rattle.cse_server.specs.declared.connection.Ended.TheVariants.{ReadFault as EndedReading}
@@ -29,31 +31,47 @@ use Rattle.command_words.specs.Command.{Command, Serving, Task, http, replay, se
 use Rattle.cse_cli.specs.Run.{status_behind}
 use Rattle.cse_cli.specs.Serve.{ServesObject}
 use Rattle.turn_desk.specs.declared.shared.DeskSeat.{DeskSeat}
-use Rattle.journal_opening.specs.Opening.{IsRefused}
+use Rattle.journal_opening.specs.Opening.{IsRefused, StaysAsItWas}
 use Rattle.journal_opening.specs.declared.fault.OpeningFault.{OpeningFault}
 use Rattle.journal_opening.specs.declared.fault.OpeningFault.TheVariants.{NoHeader, OtherFormat}
 use Rattle.journal_opening.specs.declared.fault.OpeningFault.TheVariants.{OtherHome, BadLine}
+use Rattle.journal_opening.specs.declared.fault.OpeningFault.TheVariants.{BadSnapshot, Unsound}
 use Rattle.journal_opening.specs.declared.fault.OpeningFault.TheVariants.{Failed, OutOfMemory}
 use Rattle.journaled_entity.specs.Keeping.{KeepsEntity}
 use Rattle.journaled_entity.specs.Opened.{OpensAt}
+use Rattle.journaled_server.specs.Sending.{SendsThenTakes, sender}
 use Rattle.journaled_server.specs.Serving.{AnswersGrown}
+
+-- What input, output, and the clock and the link of a bench tell by these functions.
+abbrev pub outside_by : {S O C L : Type 0} → (S → Option (List ℕ)) → (O → Option (List ℕ))
+    → (O → Option ℕ) → (C → Option (List ℕ)) → (L → LinkTold) → S → O → Bench C L → Outside
+outside_by left written puts readings link_tells input out bench =
+    outside (left input) (sink_told (written out) (puts out)) (readings bench.clock)
+    (link_tells bench.link)
+
+-- a seat of a desk of an entity that is kept in a file
+abbrev pub KeptSeat : Type 0 → Type 0
+KeptSeat F = DeskSeat (KeptData EntityData F) (Turn KeptEvent) (Report KeptOutcome)
 
 -- the turns of an entity that is kept in a file
 abbrev pub KeptTurns : {F : Type 0} → Type 0 → (F → List ℕ) → (F → List ℕ → Type 0) → (F → ℕ)
-    → (F → ℕ → List ℕ → Type 0) → ℕ → Turn Event → KeptData EntityData F → Report Outcome
+    → (F → ℕ → List ℕ → Type 0) → ℕ → Turn KeptEvent → KeptData EntityData F → Report KeptOutcome
     → KeptData EntityData F → Type 0
 KeptTurns tells seen may_leave moment left_since =
-    KeptStep Step KeepsEntity tells seen may_leave moment left_since
+    KeptStep KeptEntityStep KeepsEntity tells seen may_leave moment left_since
 
 -- the status, or that writing failed, where the journal has
 abbrev pub status_of : Bool → Status → Status
 status_of failed status = if failed then WriteFault else status
 
-module _ {S : Type 0} (grown : S → List (Marked Event Outcome) → S → Type 0) where
-  -- The items that a connection left in an outbox were sent. Nothing was read or written.
-  pub record SendsBehind (before after : S) (old new : Outside) (whole status : Status) : Type 0 where
+module _ {S : Type 0} (grown : S → List (Marked KeptEvent (Answer KeptOutcome)) → S → Type 0) where
+  -- The items that a connection left in an outbox were sent, each before it was taken. Nothing was
+  -- read or written.
+  pub record SendsBehind (before after : S) (old new : Outside) (whole status : Status)
+      : Type 0 where
     pub result : Result ℕ AllocError
-    pub sends : SendsItems grown before after old.readings new.readings old.link new.link result
+    pub sends : SendsThenTakes grown (sender before old.readings old.link)
+        (sender after new.readings new.link) result
     pub left : new.left ≡ old.left
     pub out : new.out ≡ old.out
     pub status_is : status ≡ status_behind whole result
@@ -74,8 +92,8 @@ module _ {S : Type 0} (grown : S → List (Marked Event Outcome) → S → Type 
 -- Input and output were served as one connection of an object that is kept, and then what it left
 -- in the outbox was sent. The turns were taken by that object, one after another, and by nobody
 -- else.
-pub record ServesStreams {F : Type 0} (turns : ℕ → Turn Event → KeptData EntityData F
-    → Report Outcome → KeptData EntityData F → Type 0) (opened : KeptData EntityData F)
+pub record ServesStreams {F : Type 0} (turns : ℕ → Turn KeptEvent → KeptData EntityData F
+    → Report KeptOutcome → KeptData EntityData F → Type 0) (opened : KeptData EntityData F)
     (old new : Outside) (status : Status) : Type 0 where
   pub between : KeptData EntityData F
   pub after : KeptData EntityData F
@@ -83,7 +101,7 @@ pub record ServesStreams {F : Type 0} (turns : ℕ → Turn Event → KeptData E
   pub ended : Ended
   pub sent : Status
   pub serves : Serves (AnswersGrown (IsOwnRun turns)) opened between old served ended
-  pub behind : EndsBehind (AnswersGrown (IsOwnRun turns)) ended between after served new sent
+  pub behind : EndsBehind (KeptGrown (IsOwnRun turns)) ended between after served new sent
   pub status_is : status ≡ status_of after.journal.is_failed sent
 
 -- the status where a file isn't opened for this fault
@@ -91,16 +109,24 @@ abbrev pub refusal : OpeningFault → Status
 refusal NoHeader = BadStream
 refusal OtherFormat = BadStream
 refusal OtherHome = BadStream
+refusal (BadSnapshot number) = BadStream
+refusal Unsound = BadStream
 refusal (BadLine number) = BadStream
 refusal Failed = ReadFault
 refusal OutOfMemory = Memory
 
 -- Nobody was served: for this fault a file with these bytes isn't opened by a home. They are
--- refused by what stands in them, unless the file failed or memory ran out.
-pub record ServesNone {F : Type 0} (tells : Type 0) (seen : F → List ℕ) (home : HomeData) (file : F)
-    (old new : Outside) (status : Status) : Type 0 where
+-- refused by what stands in them, unless the file failed or memory ran out. The file is given back,
+-- and unless it failed it stays as it was, at each moment.
+pub record ServesNone {F : Type 0} (tells : Type 0) (seen : F → List ℕ)
+    (may_leave : F → List ℕ → Type 0) (moment : F → ℕ) (left_since : F → ℕ → List ℕ → Type 0)
+    (home : HomeData) (file : F) (old new : Outside) (back : Option F) (status : Status)
+    : Type 0 where
   pub fault : OpeningFault
+  pub left : F
   pub refused : tells → IsRefused home (seen file) fault
+  pub back_is : back ≡ Some left
+  pub stays : tells → fault ≢ Failed → StaysAsItWas seen may_leave moment left_since file left
   pub status_is : status ≡ refusal fault
   pub same : new ≡ old
 
@@ -122,11 +148,8 @@ module _ {F : Type 0} (tells : Type 0) (seen : F → List ℕ) (may_leave : F �
   -- Connections were attended to at a desk of an object that is kept, as at one of any object; and
   -- the status says that all is well or that the door failed, or that writing failed where the
   -- journal has.
-  abbrev pub ServesKept : {C B A : Type 0} → (DeskSeat (KeptData EntityData F) (Turn Event)
-      (Report Outcome) → C → B → DeskSeat (KeptData EntityData F) (Turn Event) (Report Outcome)
-      → A → B → Type 0)
-      → (DeskSeat (KeptData EntityData F) (Turn Event) (Report Outcome) → B
-      → DeskSeat (KeptData EntityData F) (Turn Event) (Report Outcome) → B → Type 0)
+  abbrev pub ServesKept : {C B A : Type 0} → (KeptSeat F → C → B → KeptSeat F → A → B → Type 0)
+      → (KeptSeat F → B → KeptSeat F → B → Type 0)
       → List B → B → B → KeptData EntityData F → Status → Type 0
   ServesKept attends does benches old new opened status =
       (served : ServesObject (KeptTurns tells seen may_leave moment left_since) attends does benches
@@ -136,11 +159,8 @@ module _ {F : Type 0} (tells : Type 0) (seen : F → List ℕ) (may_leave : F �
 
   -- That by as many workers as the words say, where there are benches for so many, beside an
   -- errand.
-  abbrev pub ServesByWords : {C B A : Type 0} → (DeskSeat (KeptData EntityData F) (Turn Event)
-      (Report Outcome) → C → B → DeskSeat (KeptData EntityData F) (Turn Event) (Report Outcome)
-      → A → B → Type 0)
-      → (DeskSeat (KeptData EntityData F) (Turn Event) (Report Outcome) → B
-      → DeskSeat (KeptData EntityData F) (Turn Event) (Report Outcome) → B → Type 0)
+  abbrev pub ServesByWords : {C B A : Type 0} → (KeptSeat F → C → B → KeptSeat F → A → B → Type 0)
+      → (KeptSeat F → B → KeptSeat F → B → Type 0)
       → List B → B → B → Serving → KeptData EntityData F → Status → Type 0
   ServesByWords attends does benches old new serving opened status =
       ServesKept attends does (take (max 1 serving.workers + 1) benches) old new opened status
@@ -166,19 +186,19 @@ module _ {F : Type 0} (tells : Type 0) (seen : F → List ℕ) (may_leave : F �
   DoesTask served (generate requests) opened old new status = (status ≡ Usage) × (new ≡ old)
 
   -- A task over a journal: the entity of this home was opened at the file, and this was done with
-  -- it; or nobody was served.
+  -- it; or nobody was served, and the file is given back.
   abbrev pub RunsTask : (Serving → KeptData EntityData F → Status → Type 0) → Task → HomeData → F
-      → Outside → Outside → Status → Type 0
-  RunsTask served task home file old new status =
+      → Outside → Outside → Option F → Status → Type 0
+  RunsTask served task home file old new back status =
       ((opened : KeptData EntityData F) × OpensAt tells seen may_leave home file opened
-      × DoesTask served task opened old new status)
-      ⊎ ServesNone tells seen home file old new status
+      × DoesTask served task opened old new status × (back ≡ None))
+      ⊎ ServesNone tells seen may_leave moment left_since home file old new back status
 
   -- What is done for words over a journal: for those that are no command, which are usage unless
-  -- memory runs out for reading them, nothing.
+  -- memory runs out for reading them, nothing. The file is given back then.
   abbrev pub RunsWords : (Serving → KeptData EntityData F → Status → Type 0) → Option Command → F
-      → Outside → Outside → Status → Type 0
-  RunsWords served None file old new status =
-      ((status ≡ Usage) ⊎ (status ≡ Memory)) × (new ≡ old)
-  RunsWords served (Some command) file old new status =
-      RunsTask served command.task command.home file old new status
+      → Outside → Outside → Option F → Status → Type 0
+  RunsWords served None file old new back status =
+      ((status ≡ Usage) ⊎ (status ≡ Memory)) × (new ≡ old) × (back ≡ Some file)
+  RunsWords served (Some command) file old new back status =
+      RunsTask served command.task command.home file old new back status

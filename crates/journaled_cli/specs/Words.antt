@@ -1,7 +1,8 @@
 -- What the words of a command line say of a journal.
-use Rattle.std.specs.Prelude.{ℕ, ◌+◌, nat_lt, Bool, ◌||◌, List, [], ◌∷◌, ◌++◌, length}
-use Rattle.std.specs.Prelude.{take, drop, codes, bytes_eq, Option, Some, None, is_some}
+use Rattle.std.specs.Prelude.{ℕ, ◌+◌, nat_lt, Bool, true, false, not, ◌&&◌, ◌||◌, List, [], ◌∷◌}
+use Rattle.std.specs.Prelude.{◌++◌, length, take, drop, codes, bytes_eq, Option, Some, None, is_some}
 use Rattle.std.specs.Prelude.{if◌then◌else◌}
+use Rattle.command_words.specs.Command.{http_word}
 use Rattle.command_words.specs.Options.{Choice, has_dash, in_one_word}
 
 -- the name of the journal's file, if it is named, and the other words
@@ -31,11 +32,16 @@ abbrev pub words_before : List (List ℕ) → ℕ
 words_before [] = 0
 words_before (word ∷ words) = if names_journal word then 0 else words_before words + 1
 
+-- the text names a file: it isn't empty
+abbrev pub is_file_name : List ℕ → Bool
+is_file_name [] = false
+is_file_name (c ∷ cs) = true
+
 -- This file is named, and these words stand before the option and behind its value, where it stands
 -- nowhere else.
 abbrev pub said_with : List (List ℕ) → List ℕ → List (List ℕ) → Option JournalSaid
 said_with before file behind =
-    if nat_lt (words_before behind) (length behind) then None
+    if not (is_file_name file) || nat_lt (words_before behind) (length behind) then None
     else Some (record { file = Some file; words = before ++ behind })
 
 -- what stands behind the option, its value first, which begins with no dash
@@ -56,7 +62,18 @@ said_from before (option ∷ behind) = said_by_option (value_within option) befo
 
 -- What words say of a journal: the name of its file, which is the word behind the option and begins
 -- with no dash, or stands in the option's own word behind the equals sign. Nothing is said by words
--- in which the option stands twice or has no such value.
+-- in which the option stands twice, or has no such value or an empty one.
 abbrev pub journal_said : List (List ℕ) → Option JournalSaid
 journal_said words =
     said_from (take (words_before words) words) (drop (words_before words) words)
+
+-- ---- the command `snapshot`
+
+-- `snapshot`, the name of a journal's file, which begins with no dash, and the options of a home.
+-- What the options say is read as at `http`.
+abbrev pub snapshot_said : List (List ℕ) → Option JournalSaid
+snapshot_said [] = None
+snapshot_said (word ∷ []) = None
+snapshot_said (word ∷ file ∷ options) =
+    if bytes_eq word (codes "snapshot") && not (has_dash file)
+    then Some (record { file = Some file; words = http_word ∷ options }) else None

@@ -3,8 +3,8 @@ ghost use Rattle.std.specs.Prelude.{◌≡◌, ◌≤◌, IfOk, map, option_map,
 ghost use Rattle.command_words.specs.Command.{command_in, task_by};
 ghost use Rattle.cse_cli.specs.Words.{command_at};
 ghost use Rattle.cse_server.specs.Attending.{conn_tells, link_tells};
-ghost use Rattle.cse_server.specs.Outside.{link_told, outside, sink_told};
-ghost use Rattle.journaled_cli.specs.Run.{DoesTask, RunsTask, RunsWords, ServesByWords, refusal};
+ghost use Rattle.journaled_cli.specs.Run.{DoesTask, RunsTask, RunsWords, ServesByWords};
+ghost use Rattle.journaled_cli.specs.Run.{outside_by, refusal};
 ghost use Rattle.journaled_server.specs.Serving.{AttendsKept, SendsKept, TurnsGrow};
 ghost use Rattle.kept_file.specs.Crashes.{LeavesThis};
 
@@ -14,8 +14,8 @@ use crate::serve::serve_door;
 use command_words::{Task, read_command};
 use cse_server::Bench;
 use journal_opening::OpeningFault;
-use journaled_entity::open_kept;
-use kept_file::KeptFile;
+use journaled_entity::{Unopened, open_kept};
+use kept_file::NamedFile;
 use m2m_io::{Clock, Door, Link, Sink, Source, Status};
 use resource_tree::IndexTree;
 use std::alloc::{AllocError as OutOfMemory, Global};
@@ -25,7 +25,7 @@ use tree_model::Home;
 
 /// What the words ask for, and the home of the entity that it is for; None where they are no
 /// command.
-fn asked_by<'a>(
+pub(crate) fn asked_by<'a>(
     alloc: Global,
     words: &'a [&'a str],
 ) -> Result<Option<(Task<'a>, Home)>, OutOfMemory>
@@ -43,13 +43,15 @@ fn asked_by<'a>(
 }
 
 /// The status where a file isn't opened for this fault.
-fn refusal(fault: OpeningFault) -> Status
+pub(crate) fn refusal(fault: OpeningFault) -> Status
     ensures { result ≡ refusal fault }
 {
     match fault {
         OpeningFault::NoHeader
         | OpeningFault::OtherFormat
         | OpeningFault::OtherHome
+        | OpeningFault::BadSnapshot(_)
+        | OpeningFault::Unsound
         | OpeningFault::BadLine(_) => Status::BadStream,
         OpeningFault::Failed => Status::ReadFault,
         OpeningFault::OutOfMemory => Status::Memory,
@@ -57,7 +59,11 @@ fn refusal(fault: OpeningFault) -> Status
 }
 
 /// Why the journal of this name isn't opened, as a line.
-fn reason(alloc: Global, name: &str, fault: OpeningFault) -> Result<String, OutOfMemory> {
+pub(crate) fn reason(
+    alloc: Global,
+    name: &str,
+    fault: OpeningFault,
+) -> Result<String, OutOfMemory> {
     match fault {
         OpeningFault::NoHeader => format!(in alloc; "cannot open {name}: it is no journal\n"),
         OpeningFault::OtherFormat => {
@@ -65,6 +71,12 @@ fn reason(alloc: Global, name: &str, fault: OpeningFault) -> Result<String, OutO
         }
         OpeningFault::OtherHome => {
             format!(in alloc; "cannot open {name}: it is the journal of another home\n")
+        }
+        OpeningFault::BadSnapshot(number) => {
+            format!(in alloc; "cannot open {name}: line {number} doesn't fit in its snapshot\n")
+        }
+        OpeningFault::Unsound => {
+            format!(in alloc; "cannot open {name}: its snapshot is that of no sound CSE\n")
         }
         OpeningFault::BadLine(number) => {
             format!(in alloc; "cannot open {name}: line {number} is no deed of a journal\n")
@@ -98,17 +110,13 @@ fn do_task<R, S: Source, O: Sink, D: Door + Send, C: Clock + Send, L: Link + Sen
 ) -> Status
 where
     R: Wait + Threads + Clone + Drop + Sync,
-    F: KeptFile + Send + Drop,
+    F: NamedFile + Send + Drop,
     D: Drop,
     C: Drop,
     L: Drop,
     requires { 2 ≤ vec_len benches }
-    ensures { let old = outside (S.left input.old)
-        (sink_told (O.written out.old) (O.puts out.old)) (C.readings first.old.clock)
-        (link_told (L.exchanges first.old.link) (L.faults first.old.link)) in
-        let new = outside (S.left input.new)
-        (sink_told (O.written out.new) (O.puts out.new)) (C.readings first.new.clock)
-        (link_told (L.exchanges first.new.link) (L.faults first.new.link)) in
+    ensures { let told = outside_by S.left O.written O.puts C.readings
+        (link_tells L.exchanges L.faults) in
         let attends = AttendsKept TurnsGrow
         (conn_tells D.Conn.left D.Conn.written D.Conn.puts D.Conn.Source.faults
         D.Conn.Sink.faults) C.readings (link_tells L.exchanges L.faults) in
@@ -116,7 +124,7 @@ where
         let served = ServesByWords F.tells F.seen F.may_leave F.moment F.left_since attends sends
         benches.items first.old first.new in
         DoesTask F.tells F.seen F.may_leave F.moment F.left_since served (task_by task.entry)
-        object old new result }
+        object (told input.old out.old first.old) (told input.new out.new first.new) result }
 {
     match task {
         Task::Http => serve_streams(alloc, object, input, out, first),
@@ -126,7 +134,8 @@ where
     }
 }
 
-/// Does a task over the entity of a home that is kept in a file, and tells nobody how it ended.
+/// Does a task over the entity of a home that is kept in a file, and tells nobody how it ended. A
+/// file at which no entity is opened is given back.
 fn run_task<R, S: Source, O: Sink, E: Sink, D: Door + Send, C: Clock + Send, L: Link + Send, F>(
     rt: &R,
     alloc: Global,
@@ -141,21 +150,17 @@ fn run_task<R, S: Source, O: Sink, E: Sink, D: Door + Send, C: Clock + Send, L: 
     door: D,
     first: &mut Bench<C, L>,
     benches: Vec<Bench<C, L>>,
-) -> Status
+) -> (Status, Option<F>)
 where
     R: Wait + Threads + Clone + Drop + Sync,
-    F: KeptFile + Send + Drop,
+    F: NamedFile + Send + Drop,
     D: Drop,
     C: Drop,
     L: Drop,
     requires benches { 2 ≤ vec_len benches }
     requires kept { F.tells → LeavesThis (F.seen file) (F.may_leave file) }
-    ensures { let old = outside (S.left input.old)
-        (sink_told (O.written out.old) (O.puts out.old)) (C.readings first.old.clock)
-        (link_told (L.exchanges first.old.link) (L.faults first.old.link)) in
-        let new = outside (S.left input.new)
-        (sink_told (O.written out.new) (O.puts out.new)) (C.readings first.new.clock)
-        (link_told (L.exchanges first.new.link) (L.faults first.new.link)) in
+    ensures { let told = outside_by S.left O.written O.puts C.readings
+        (link_tells L.exchanges L.faults) in
         let attends = AttendsKept TurnsGrow
         (conn_tells D.Conn.left D.Conn.written D.Conn.puts D.Conn.Source.faults
         D.Conn.Sink.faults) C.readings (link_tells L.exchanges L.faults) in
@@ -163,15 +168,24 @@ where
         let served = ServesByWords F.tells F.seen F.may_leave F.moment F.left_since attends sends
         benches.items first.old first.new in
         RunsTask F.tells F.seen F.may_leave F.moment F.left_since served (task_by task.entry) home
-        file old new result }
+        file (told input.old out.old first.old) (told input.new out.new first.new) result.1
+        result.0 }
 {
     match open_kept(alloc, home, IndexTree::seeded(alloc, seed), file) {
-        Ok(object) => do_task(rt, alloc, task, object, input, out, door, first, benches),
-        Err(fault) => refuse(alloc, err, name, fault),
+        Ok(object) => {
+            let status = do_task(rt, alloc, task, object, input, out, door, first, benches);
+            (status, None)
+        }
+        Err(unopened) => {
+            let Unopened { fault, file } = unopened;
+            let status = refuse(alloc, err, name, fault);
+            (status, Some(file))
+        }
     }
 }
 
-/// Does what the words name over the entity that is kept in a file, and tells nobody how it ended.
+/// Does what the words name over the entity that is kept in a file, and tells nobody how it ended. A
+/// file at which no entity is opened is given back.
 fn run_words<R, S: Source, O: Sink, E: Sink, D: Door + Send, C: Clock + Send, L: Link + Send, F>(
     rt: &R,
     alloc: Global,
@@ -185,21 +199,17 @@ fn run_words<R, S: Source, O: Sink, E: Sink, D: Door + Send, C: Clock + Send, L:
     door: D,
     first: &mut Bench<C, L>,
     benches: Vec<Bench<C, L>>,
-) -> Status
+) -> (Status, Option<F>)
 where
     R: Wait + Threads + Clone + Drop + Sync,
-    F: KeptFile + Send + Drop,
+    F: NamedFile + Send + Drop,
     D: Drop,
     C: Drop,
     L: Drop,
     requires benches { 2 ≤ vec_len benches }
     requires kept { F.tells → LeavesThis (F.seen file) (F.may_leave file) }
-    ensures { let old = outside (S.left input.old)
-        (sink_told (O.written out.old) (O.puts out.old)) (C.readings first.old.clock)
-        (link_told (L.exchanges first.old.link) (L.faults first.old.link)) in
-        let new = outside (S.left input.new)
-        (sink_told (O.written out.new) (O.puts out.new)) (C.readings first.new.clock)
-        (link_told (L.exchanges first.new.link) (L.faults first.new.link)) in
+    ensures { let told = outside_by S.left O.written O.puts C.readings
+        (link_tells L.exchanges L.faults) in
         let attends = AttendsKept TurnsGrow
         (conn_tells D.Conn.left D.Conn.written D.Conn.puts D.Conn.Source.faults
         D.Conn.Sink.faults) C.readings (link_tells L.exchanges L.faults) in
@@ -207,20 +217,22 @@ where
         let served = ServesByWords F.tells F.seen F.may_leave F.moment F.left_since attends sends
         benches.items first.old first.new in
         RunsWords F.tells F.seen F.may_leave F.moment F.left_since served
-        (command_in (map (λ word. word.now) words.now)) file old new result }
+        (command_in (map (λ word. word.now) words.now)) file
+        (told input.old out.old first.old) (told input.new out.new first.new) result.1
+        result.0 }
 {
     match asked_by(alloc, words) {
         Ok(Some((task, home))) => run_task(
             rt, alloc, task, home, name, file, seed, input, out, err, door, first, benches,
         ),
-        Ok(None) => Status::Usage,
-        Err(_) => Status::Memory,
+        Ok(None) => (Status::Usage, Some(file)),
+        Err(_) => (Status::Memory, Some(file)),
     }
 }
 
 /// Runs the command `http` or `serve` that the words name, over the entity that is kept in the file
-/// of a name, and answers with the status. The entity's tables hang on the seed. The other devices
-/// are those of `run` of the crate cse_cli.
+/// of a name, and answers with the status. A file at which no entity is opened is given back. The
+/// entity's tables hang on the seed. The other devices are those of `run` of the crate cse_cli.
 pub fn run_journaled<
     R,
     S: Source,
@@ -243,10 +255,10 @@ pub fn run_journaled<
     door: D,
     first: &mut Bench<C, L>,
     benches: Vec<Bench<C, L>>,
-) -> Status
+) -> (Status, Option<F>)
 where
     R: Wait + Threads + Clone + Drop + Sync,
-    F: KeptFile + Send + Drop,
+    F: NamedFile + Send + Drop,
     D: Drop,
     C: Drop,
     L: Drop,
@@ -257,13 +269,10 @@ where
 
     // The entity is opened that the journal in the file makes. With `http` the output gets the
     // replies that may be given of it, and with `serve` connections are attended to by it. A file
-    // that holds none of its home is refused, and for words that are no command nothing is done.
-    ensures runs { let old = outside (S.left input.old)
-        (sink_told (O.written out.old) (O.puts out.old)) (C.readings first.old.clock)
-        (link_told (L.exchanges first.old.link) (L.faults first.old.link)) in
-        let new = outside (S.left input.new)
-        (sink_told (O.written out.new) (O.puts out.new)) (C.readings first.new.clock)
-        (link_told (L.exchanges first.new.link) (L.faults first.new.link)) in
+    // that holds none of its home is refused and stays as it was, and for words that are no command
+    // nothing is done.
+    ensures runs { let told = outside_by S.left O.written O.puts C.readings
+        (link_tells L.exchanges L.faults) in
         let attends = AttendsKept TurnsGrow
         (conn_tells D.Conn.left D.Conn.written D.Conn.puts D.Conn.Source.faults
         D.Conn.Sink.faults) C.readings (link_tells L.exchanges L.faults) in
@@ -271,11 +280,13 @@ where
         let served = ServesByWords F.tells F.seen F.may_leave F.moment F.left_since attends sends
         benches.items first.old first.new in
         RunsWords F.tells F.seen F.may_leave F.moment F.left_since served
-        (command_in (map (λ word. word.now) words.now)) file old new result }
+        (command_in (map (λ word. word.now) words.now)) file
+        (told input.old out.old first.old) (told input.new out.new first.new) result.1
+        result.0 }
 {
-    let status = run_words(
+    let (status, file) = run_words(
         rt, alloc, words, name, file, seed, input, out, err, door, first, benches,
     );
     let _ = status.put_line(err);
-    status
+    (status, file)
 }

@@ -1,93 +1,37 @@
 //! The command `http` over a journal.
 ghost use Rattle.std.specs.Prelude.{◌≡◌, List, Option, ℕ};
-ghost use Rattle.cse_server.specs.Connection.{Serves};
 ghost use Rattle.cse_server.specs.Outside.{SinkTold, link_told, outside, sink_told};
-ghost use Rattle.cse_server.specs.Sending.{SendsItems};
+ghost use Rattle.kept_desk.specs.Kept.{KeptGrown};
 ghost use Rattle.turn_desk.specs.Growth.{IsOwnRun};
 ghost use Rattle.journaled_cli.specs.Run as spec;
 ghost use Rattle.journaled_cli.specs.Run.{KeptTurns, SendsBehind, ServesStreams, EndsBehind};
-ghost use Rattle.journaled_server.specs.Serving.{AnswersGrown};
 
 use crate::kept::KeptEntity;
-use cse_machine::{Event, Outcome};
-use cse_server::{Bench, Ended, Wire, send_notes, serve_connection};
-use journaled_server::{LossSignal, PlainDesk};
-use kept_desk::{KeptDesk, Report, Turn};
-use kept_file::KeptFile;
+use cse_server::{Bench, Ended, Wire};
+use journaled_server::{send_kept_alone, serve_kept_alone};
+use kept_file::NamedFile;
 use kept_object::KeptObject;
-use m2m_io::{Clock, Connection, Link, Sink, Source, Status};
-use std::alloc::{AllocError as OutOfMemory, Global};
-use turn_desk::{Object, OwnDesk, OwnSeat};
-
-/// Serves one connection at a seat that holds an object which is kept.
-fn serve_alone<O, X, C, L>(
-    alloc: Global,
-    seat: &mut OwnSeat<O>,
-    conn: &mut X,
-    clock: &mut C,
-    link: &mut L,
-) -> Ended
-where
-    O: Object<Event = Turn<Event>, Outcome = Report<Outcome>>,
-    X: Connection,
-    C: Clock,
-    L: Link,
-    ensures serves { let old = outside (X.left conn.old)
-        (sink_told (X.written conn.old) (X.puts conn.old)) (C.readings clock.old)
-        (link_told (L.exchanges link.old) (L.faults link.old)) in
-        let new = outside (X.left conn.new)
-        (sink_told (X.written conn.new) (X.puts conn.new)) (C.readings clock.new)
-        (link_told (L.exchanges link.new) (L.faults link.new)) in
-        Serves (AnswersGrown (IsOwnRun O.step)) seat.old seat.new old new result }
-    ensures holds { (X.kept_by_read conn.new).holds ≡ (X.kept_by_read conn.old).holds }
-{
-    let signal = LossSignal::new();
-    let desk = OwnDesk::new();
-    let kept = KeptDesk::new(&desk);
-    let plain = PlainDesk::new(&kept, &signal);
-    serve_connection(alloc, &plain, seat, conn, clock, link)
-}
-
-/// Sends the items of the outbox of an object that is kept, at a seat that holds it.
-fn send_alone<O, C, L>(
-    alloc: Global,
-    seat: &mut OwnSeat<O>,
-    clock: &mut C,
-    link: &mut L,
-) -> Result<u64, OutOfMemory>
-where
-    O: Object<Event = Turn<Event>, Outcome = Report<Outcome>>,
-    C: Clock,
-    L: Link,
-    ensures { SendsItems (AnswersGrown (IsOwnRun O.step)) seat.old seat.new
-        (C.readings clock.old) (C.readings clock.new)
-        (link_told (L.exchanges link.old) (L.faults link.old))
-        (link_told (L.exchanges link.new) (L.faults link.new)) result }
-{
-    let signal = LossSignal::new();
-    let desk = OwnDesk::new();
-    let kept = KeptDesk::new(&desk);
-    let plain = PlainDesk::new(&kept, &signal);
-    send_notes(alloc, &plain, seat, clock, link)
-}
+use m2m_io::{Clock, Link, Sink, Source, Status};
+use std::alloc::Global;
+use turn_desk::OwnSeat;
 
 /// Sends the items of the outbox of the entity at a seat. The status is this one, unless memory
 /// runs out.
-fn send_behind<F: KeptFile, C: Clock, L: Link>(
+fn send_behind<F: NamedFile, C: Clock, L: Link>(
     alloc: Global,
     seat: &mut OwnSeat<KeptEntity<F>>,
     bench: &mut Bench<C, L>,
     whole: Status,
 ) -> Status
     ensures { (left : Option (List ℕ)) → (out : SinkTold)
-        → SendsBehind (AnswersGrown (IsOwnRun (KeptTurns F.tells F.seen F.may_leave F.moment
+        → SendsBehind (KeptGrown (IsOwnRun (KeptTurns F.tells F.seen F.may_leave F.moment
         F.left_since))) seat.old seat.new (outside left out (C.readings bench.old.clock)
         (link_told (L.exchanges bench.old.link) (L.faults bench.old.link)))
         (outside left out (C.readings bench.new.clock)
         (link_told (L.exchanges bench.new.link) (L.faults bench.new.link))) whole result }
 {
     let Bench { clock, link } = bench;
-    match send_alone(alloc, seat, clock, link) {
+    match send_kept_alone(alloc, seat, clock, link) {
         Ok(_) => whole,
         Err(_) => Status::Memory,
     }
@@ -95,14 +39,14 @@ fn send_behind<F: KeptFile, C: Clock, L: Link>(
 
 /// What is done behind a connection that ended so: where it was closed, or what was left of it was
 /// no message, the items of the outbox are sent.
-fn finish<F: KeptFile, C: Clock, L: Link>(
+fn finish<F: NamedFile, C: Clock, L: Link>(
     alloc: Global,
     seat: &mut OwnSeat<KeptEntity<F>>,
     bench: &mut Bench<C, L>,
     ended: Ended,
 ) -> Status
     ensures { (left : Option (List ℕ)) → (out : SinkTold)
-        → EndsBehind (AnswersGrown (IsOwnRun (KeptTurns F.tells F.seen F.may_leave F.moment
+        → EndsBehind (KeptGrown (IsOwnRun (KeptTurns F.tells F.seen F.may_leave F.moment
         F.left_since))) ended seat.old seat.new (outside left out (C.readings bench.old.clock)
         (link_told (L.exchanges bench.old.link) (L.faults bench.old.link)))
         (outside left out (C.readings bench.new.clock)
@@ -118,7 +62,7 @@ fn finish<F: KeptFile, C: Clock, L: Link>(
 }
 
 /// The status, or that writing failed, where the journal of this object has.
-pub(crate) fn status_of<O: Drop, F: KeptFile + Drop>(
+pub(crate) fn status_of<O: Drop, F: NamedFile + Drop>(
     object: KeptObject<O, F>,
     status: Status,
 ) -> Status
@@ -133,7 +77,7 @@ pub(crate) fn status_of<O: Drop, F: KeptFile + Drop>(
 
 /// Serves input and output as one connection of an entity that is kept, and sends the items that
 /// this leaves in the outbox.
-pub(crate) fn serve_streams<F: KeptFile + Drop, S: Source, O: Sink, C: Clock, L: Link>(
+pub(crate) fn serve_streams<F: NamedFile + Drop, S: Source, O: Sink, C: Clock, L: Link>(
     alloc: Global,
     object: KeptEntity<F>,
     input: &mut S,
@@ -151,7 +95,7 @@ pub(crate) fn serve_streams<F: KeptFile + Drop, S: Source, O: Sink, C: Clock, L:
 {
     let mut seat = OwnSeat::new(object);
     let mut wire = Wire::new(input, out);
-    let ended = serve_alone(
+    let ended = serve_kept_alone(
         alloc,
         &mut seat,
         &mut wire,

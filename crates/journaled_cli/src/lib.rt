@@ -6,6 +6,9 @@
 //! before what it tells is kept. Where the file fails, everything from then on is answered 5000 and
 //! not done, and the status is that writing failed.
 //!
+//! `run_snapshot` does the command `snapshot`, whose words `snapshot_words` tells apart: it
+//! replaces a journal by the snapshot of the entity that it makes, so that it opens fast again.
+//!
 //! ```text
 //! let Some(said) = journal_words(alloc, &words)? else { return Status::Usage };
 //! run_journaled(
@@ -18,7 +21,9 @@ mod command;
 mod http;
 mod kept;
 mod serve;
+mod snapshot;
 mod words;
 
 pub use command::run_journaled;
-pub use words::{JournalWords, journal_words};
+pub use snapshot::run_snapshot;
+pub use words::{JournalWords, journal_words, snapshot_words};

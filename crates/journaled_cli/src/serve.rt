@@ -8,11 +8,11 @@ ghost use Rattle.journaled_server.specs.Serving.{AttendsKept, SendsKept, TurnsGr
 use crate::http::status_of;
 use crate::kept::KeptEntity;
 use command_words::Serving;
-use cse_machine::{Event, Outcome};
 use cse_server::{Bench, ServeFault};
+use journal_events::{KeptEvent, KeptOutcome};
 use journaled_server::{LossDoor, LossSignal, serve_journaled};
 use kept_desk::{Report, Turn};
-use kept_file::KeptFile;
+use kept_file::NamedFile;
 use m2m_io::{Clock, Door, Link, Status};
 use std::alloc::Global;
 use std::sync::{Arc, Wait};
@@ -35,7 +35,7 @@ fn serve_at_desk<R, O, D, C, L>(
 ) -> Option<(O, Status)>
 where
     R: Wait + Threads + Drop + Sync,
-    O: Object<Event = Turn<Event>, Outcome = Report<Outcome>> + Send + Drop,
+    O: Object<Event = Turn<KeptEvent>, Outcome = Report<KeptOutcome>> + Send + Drop,
     D: Door + Send + Drop,
     C: Clock + Send + Drop,
     L: Link + Send + Drop,
@@ -84,7 +84,7 @@ fn serve_kept<R, F, D, C, L>(
 ) -> Status
 where
     R: Wait + Threads + Drop + Sync,
-    F: KeptFile + Send + Drop,
+    F: NamedFile + Send + Drop,
     D: Door + Send + Drop,
     C: Clock + Send + Drop,
     L: Link + Send + Drop,
@@ -130,7 +130,7 @@ pub(crate) fn serve_door<R, F, D, C, L>(
 ) -> Status
 where
     R: Wait + Threads + Clone + Drop + Sync,
-    F: KeptFile + Send + Drop,
+    F: NamedFile + Send + Drop,
     D: Door + Send + Drop,
     C: Clock + Send + Drop,
     L: Link + Send + Drop,

@@ -1,4 +1,4 @@
-//! The option that names a journal.
+//! The words that name a journal.
 ghost use Rattle.std.specs.Prelude.{◌≡◌, ◌≤◌, ◌++◌, IfOk, length, map, option_map};
 ghost use Rattle.command_words.specs.Options.{has_dash};
 ghost use Rattle.journaled_cli.specs.Words as spec;
@@ -41,6 +41,13 @@ fn begins_with_dash(word: &str) -> bool
     matches!(word.as_bytes(), [b'-', ..])
 }
 
+/// Whether the text names a file: it isn't empty.
+fn is_file_name(text: &str) -> bool
+    ensures { result ≡ spec.is_file_name text.now }
+{
+    matches!(text.as_bytes(), [_, ..])
+}
+
 /// How many words stand before the first that is the option.
 fn words_before(words: &[&str]) -> usize
     ensures value { result ≡ spec.words_before (map (λ w. w.now) words.now) }
@@ -71,7 +78,8 @@ fn joined<'a>(
     Ok(words)
 }
 
-/// The words before the option and those behind its value, unless it stands there again.
+/// The words before the option and those behind its value, unless it stands there again or the
+/// value is empty.
 fn said_with<'a>(
     alloc: Global,
     before: &[&'a str],
@@ -81,7 +89,7 @@ fn said_with<'a>(
     ensures { IfOk result (λ said. option_map said_by said
         ≡ spec.said_with (map (λ w. w.now) before.now) file.now (map (λ w. w.now) behind.now)) }
 {
-    if words_before(behind) < behind.len() {
+    if !is_file_name(file) || words_before(behind) < behind.len() {
         return Ok(None);
     }
     let words = joined(alloc, before, behind)?;
@@ -135,7 +143,7 @@ fn said_from<'a>(
 
 /// Takes the option out of words, with its value, which names a file: the word behind it, which
 /// begins with no dash, or what stands behind the equals sign in its own word. None where it stands
-/// there twice, or has no such value.
+/// there twice, or has no such value or an empty one.
 pub fn journal_words<'a>(
     alloc: Global,
     words: &[&'a str],
@@ -146,4 +154,29 @@ pub fn journal_words<'a>(
     let place = words_before(words);
     let (before, rest) = words.split_at(place);
     said_from(alloc, before, rest)
+}
+
+/// What the words of the command `snapshot` say: the name of a journal's file, and the options of a
+/// home behind the word `http`, at which they are read. None of other words.
+pub fn snapshot_words<'a>(
+    alloc: Global,
+    words: &[&'a str],
+) -> Result<Option<JournalWords<'a>>, OutOfMemory>
+    ensures { IfOk result (λ said. option_map said_by said
+        ≡ spec.snapshot_said (map (λ w. w.now) words.now)) }
+{
+    match words {
+        [word, file, options @ ..] => {
+            if word.as_bytes() == b"snapshot".as_slice() && !begins_with_dash(file) {
+                let words = joined(alloc, &["http"], options)?;
+                Ok(Some(JournalWords {
+                    file: Some(*file),
+                    words,
+                }))
+            } else {
+                Ok(None)
+            }
+        }
+        _ => Ok(None),
+    }
 }

@@ -3,8 +3,8 @@ use Rattle.std.proofs.Common.{◌≡◌, inl, inr, ⊎_elim, ℕ, ◌<◌, ◌�
 use Rattle.std.proofs.lemmas.Bool.{cases_lt}
 use Rattle.std.proofs.lemmas.List.{drop-append-le}
 use Rattle.entity_model.specs.Entity.{EntityData}
-use Rattle.cse_machine.specs.Step.{Step}
-use Rattle.cse_machine.specs.declared.event.Outcome.{Outcome}
+use Rattle.journal_events.specs.Steps.{KeptEntityStep}
+use Rattle.journal_events.specs.declared.event.KeptOutcome.{KeptOutcome}
 use Rattle.journal_file.specs.Gates.{KeepsText}
 use Rattle.journal_laws.specs.Kept.{ChangesTheMomentAlone}
 use Rattle.journal_opening.specs.Opening.{OpensAs}
@@ -15,8 +15,10 @@ use Rattle.kept_object.specs.Crashing.{FileKeepsAFront}
 use Rattle.kept_object.specs.State.{KeptData}
 use Rattle.kept_object.specs.Steps.{KeptStep}
 use Rattle.kept_object.proofs.CrashLemmas.{loses_none}
-use Rattle.journaled_entity.specs.Crashes.{ReopensAsAFront, ReopensWhatWasAnswered, Turned}
+use Rattle.journaled_entity.specs.Crashes.{ReopensAsAFront, ReopensWhatWasAnswered}
 use Rattle.journaled_entity.specs.Keeping.{KeepsEntity}
+use Rattle.journaled_entity.specs.Losses.{Turned}
+use Rattle.journaled_entity.proofs.RunLemmas.{run_fares}
 
 -- what is opened is what the text makes that keeps the entity
 opens_kept : (kept : EntityData) (text bytes : List ℕ) → KeepsEntity kept text → KeepsText text bytes
@@ -34,7 +36,7 @@ settled_behind [] fs some = some
 settled_behind (e ∷ es) fs some = inr (settled_behind es fs some)
 
 -- what may be answered is among the first turns, behind which no report says that all is on the disk
-among_first : (n : ℕ) (done earlier later : List Turned) (turn : Turned) (outcome : Outcome) → (HasSettled (drop n done) → ⊥)
+among_first : (n : ℕ) (done earlier later : List Turned) (turn : Turned) (outcome : KeptOutcome) → (HasSettled (drop n done) → ⊥)
     → done ≡ earlier ++ turn ∷ later → MayGive (turn ∷ later) (Kept outcome) → length earlier < n
 among_first n done earlier later turn outcome holds is may = ⊎_elim (λ below. below)
     (λ within. absurd (holds
@@ -43,7 +45,7 @@ among_first n done earlier later turn outcome holds is may = ⊎_elim (λ below.
 
 module _ {F : Type 0} (tells : Type 0) (seen : F → List ℕ) (may_leave : F → List ℕ → Type 0) (moment : F → ℕ) (left_since : F → ℕ → List ℕ → Type 0) where
   reopens : (opened : KeptData EntityData F) (all done : List Turned) (bytes : List ℕ)
-      → FileKeepsAFront (KeptStep Step KeepsEntity tells seen may_leave moment left_since) KeepsEntity opened all done bytes
+      → FileKeepsAFront (KeptStep KeptEntityStep KeepsEntity tells seen may_leave moment left_since) KeepsEntity opened all done bytes
       → ReopensAsAFront tells seen may_leave moment left_since opened all done bytes
   reopens opened all done bytes (text, front, file) =
       let m = front.keeps_it.makes in
@@ -53,8 +55,10 @@ module _ {F : Type 0} (tells : Type 0) (seen : F → List ℕ) (may_leave : F �
         split = front.split;
         made = front.made;
         run = front.run;
+        works = front.works;
         holds = front.holds;
         answered = λ earlier later turn outcome. among_first (length front.front) done earlier later turn outcome front.holds;
+        waits = λ item has still. run_fares tells seen may_leave moment left_since item front.front opened front.made front.run front.works has still;
         opens = opens_kept front.made.object text bytes front.keeps_it file;
         refuses = (journal_opens front.made.object.home m.base m.deeds text bytes m.journal file).refuses;
       }
@@ -64,4 +68,4 @@ module _ {F : Type 0} (tells : Type 0) (seen : F → List ℕ) (may_leave : F �
       → ReopensWhatWasAnswered tells seen may_leave moment left_since
   reopens_answered only_now counts_now = λ opened between after done later told is first second bytes left.
       reopens opened (done ++ later) done bytes
-      (loses_none Step KeepsEntity tells seen may_leave moment left_since only_now counts_now opened between after done later told is first second bytes left)
+      (loses_none KeptEntityStep KeepsEntity tells seen may_leave moment left_since only_now counts_now opened between after done later told is first second bytes left)

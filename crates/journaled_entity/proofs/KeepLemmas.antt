@@ -14,6 +14,7 @@ use Rattle.cse_machine.specs.declared.event.Event.TheVariants as events
 use Rattle.cse_machine.specs.declared.event.Outcome.{Outcome}
 use Rattle.cse_machine.specs.declared.event.Outcome.TheVariants.{Done, Forward, Item, Ticked, Starved}
 use Rattle.guard_laws.proofs.HistoryLemmas.{same_entity}
+use Rattle.journal_events.specs.Steps.{OnlyExpires}
 use Rattle.journal_lines.specs.Lines.{IsReadBack, deed_at, lines_of, moment_bound}
 use Rattle.journal_lines.specs.declared.deed.Deed.{Deed}
 use Rattle.journal_lines.specs.declared.deed.Deed.TheVariants as deeds
@@ -21,8 +22,9 @@ use Rattle.journal_laws.specs.Kept.{ChangesTheMomentAlone, at_moment}
 use Rattle.journal_laws.proofs.KeptLemmas.{swept_again}
 use Rattle.journal_laws.proofs.QuietLemmas.{quiet}
 use Rattle.journal_opening.specs.Journals.{Makes, done_at, event_deed, made_of}
-use Rattle.journal_opening.proofs.JournalLemmas.{deed_alone_is_batch, journal_grows}
-use Rattle.kept_object.specs.Records.{Records}
+use Rattle.journal_opening.proofs.JournalLemmas.{deed_alone_is_batch, journal_grows, snapshot_opens}
+use Rattle.kept_object.specs.Records.{IsKeptAtRest, Records}
+use Rattle.journal_opening.specs.Snapshots.{IsSnapshot}
 use Rattle.journaled_entity.specs.Changes.{differs, is_cut_short, may_change}
 use Rattle.journaled_entity.specs.Keeping.{KeepsEntity}
 use Rattle.journaled_entity.proofs.ChangeLemmas.{expiry_alone}
@@ -33,11 +35,11 @@ moment_again : (last reading : ℕ) → last ≤ last_reading → event_moment l
 moment_again last reading within = omega (arith, within)
 
 -- what is due goes alike at the moment of the event
-swept_then : (reading moment : ℕ) (e : EntityData) → e.last ≤ last_reading → moment ≡ event_moment e.last reading → swept moment e ≡ swept reading e
+pub swept_then : (reading moment : ℕ) (e : EntityData) → e.last ≤ last_reading → moment ≡ event_moment e.last reading → swept moment e ≡ swept reading e
 swept_then reading moment e within is =
     ap (λ m. expired_told m e) (ap (event_moment e.last) is ∙ moment_again e.last reading within)
 
-unchanged : (e : EntityData) → ChangesTheMomentAlone e e
+pub unchanged : (e : EntityData) → ChangesTheMomentAlone e e
 unchanged e = record { same = refl; later = omega arith }
 
 -- and alike from an earlier moment
@@ -87,7 +89,7 @@ module _ (reading moment : ℕ) (deed : Deed) (before after : EntityData) (withi
         same = subst (ChangesTheMomentAlone made) whole (unchanged made);
       }
 
-  deed_recorded : (lines : List ℕ) → Records KeepsEntity before lines after (lines ++ lines_of moment deed)
+  pub deed_recorded : (lines : List ℕ) → Records KeepsEntity before lines after (lines ++ lines_of moment deed)
   deed_recorded lines = record {
     more = lines_of moment deed;
     appended = refl;
@@ -102,7 +104,7 @@ quiet_on made now then first second = record {
   later = omega (arith, first.later, second.later);
 }
 
-quiet_recorded : (before after : EntityData) (lines : List ℕ) → ChangesTheMomentAlone before after → Records KeepsEntity before lines after lines
+pub quiet_recorded : (before after : EntityData) (lines : List ℕ) → ChangesTheMomentAlone before after → Records KeepsEntity before lines after lines
 quiet_recorded before after lines quiet =
     let home : after.home ≡ before.home = ap (λ (e : EntityData). e.home) quiet.same in
     record {
@@ -115,6 +117,19 @@ quiet_recorded before after lines quiet =
         same = quiet_on kept.made before after kept.same quiet;
       });
     }
+
+-- ---- a snapshot
+
+pub snapshot_keeps : (e : EntityData) (bytes : List ℕ) → IsSnapshot e bytes → IsKeptAtRest KeepsEntity e bytes
+snapshot_keeps e bytes is = record {
+  text = is.text;
+  rest = is.rest;
+  keeps_it = record {
+    made = e;
+    makes = record { base = e; deeds = []; journal = snapshot_opens e is.text is.spells; made = refl };
+    same = unchanged e;
+  };
+}
 
 -- ---- an event
 
@@ -177,14 +192,20 @@ pub cut_away : (front own lines : List ℕ) (len : ℕ) → length front ≡ len
 cut_away front own lines len size is = ap (λ l. take len l) is ∙ take_at front own len size
 
 -- a request that was passed over
-pub passed_over : (reading : ℕ) (outcome : Outcome) (before after : EntityData) (request : RequestParts) → Step reading events.Tick before outcome after
+not_done : (reading : ℕ) (outcome : Outcome) (before after : EntityData) (request : RequestParts) → Step reading events.Tick before outcome after
     → Step reading (events.Ask request) before (Starved 0) after
-passed_over reading (Done reply) before after request step = absurd step
-passed_over reading (Forward poa onward) before after request step = absurd step
-passed_over reading (Item given) before after request step = absurd step
-passed_over reading Ticked before after request step = inl (record { within = omega arith; left = step })
-passed_over reading (Starved done) before after request step =
+not_done reading (Done reply) before after request step = absurd step
+not_done reading (Forward poa onward) before after request step = absurd step
+not_done reading (Item given) before after request step = absurd step
+not_done reading Ticked before after request step = inl (record { within = omega arith; left = step })
+not_done reading (Starved done) before after request step =
     inr (record { none = refl; same = step.same; due = step.due })
+
+pub passed_over : (reading : ℕ) (came : Outcome) (before after : EntityData) (request : RequestParts) → OnlyExpires reading before came after
+    → Step reading (events.Ask request) before came after
+passed_over reading came before after request only =
+    subst (λ (o : Outcome). Step reading (events.Ask request) before o after) (sym only.starved)
+    (not_done reading only.ticked before after request only.expires)
 
 -- what holds of an outcome, if there is one
 pub on_some : {A : Type 0} (P Q : A → Type 0) → ((a : A) → P a → Q a) → (o : Option A) → IfSome o P → IfSome o Q

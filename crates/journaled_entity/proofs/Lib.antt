@@ -2,3 +2,6 @@ pub mod ChangeLemmas
 pub mod KeepLemmas
 pub mod OpenLemmas
 pub mod CrashLemmas
+pub mod SendingLemmas
+pub mod ItemLemmas
+pub mod RunLemmas

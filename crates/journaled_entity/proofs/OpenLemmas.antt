@@ -1,44 +1,18 @@
 -- A journal that was opened is at rest.
-use Rattle.std.proofs.Common.{◌≡◌, ℕ, ◌≤◌, false, List, [], ◌∷◌, ◌++◌, length, take, refl, sym, ◌∙◌, ap, subst, arith}
+use Rattle.std.proofs.Common.{◌≡◌, ⊎_elim, ℕ, ◌≤◌, false, List, [], ◌∷◌, ◌++◌, length, take, refl, sym, ◌∙◌, ap, subst, arith}
 use Rattle.std.proofs.lemmas.List.{length-take-le, take_at}
 use Rattle.resource_model.specs.Home.{HomeData}
-use Rattle.primitive_json.specs.declared.request.RequestParts.{RequestParts}
-use Rattle.entity_model.specs.Entity.{EntityData, swept}
-use Rattle.guard_laws.proofs.ChangingLemmas.{IsKept}
-use Rattle.guard_laws.proofs.GuardLemmas.{Came, replied, went_on, kept, left_by}
+use Rattle.entity_model.specs.Entity.{EntityData}
 use Rattle.kept_file.specs.Crashes.{LeavesOnly, LeavesThis}
 use Rattle.journal_file.specs.Gates.{IsSettled, KeepsText, at_rest, text_of}
 use Rattle.journal_file.specs.declared.journal.Journal.{Journal}
 use Rattle.journal_laws.specs.Kept.{ChangesTheMomentAlone}
-use Rattle.journal_lines.specs.declared.deed.Dated.{Dated}
-use Rattle.journal_lines.specs.declared.deed.Deed.{Deed}
-use Rattle.journal_lines.specs.declared.deed.Deed.TheVariants.{Ask, Take, Tick}
-use Rattle.journal_opening.specs.Journals.{Makes, done_at, made_by, made_of}
-use Rattle.journal_opening.specs.Opening.{OpensAs}
+use Rattle.journal_opening.specs.Journals.{Makes}
+use Rattle.journal_opening.specs.Opening.{OpensAs, StaysAsItWas}
+use Rattle.journal_opening.proofs.HomeLemmas.{made_at_home}
 use Rattle.kept_object.specs.State.{KeptData}
 use Rattle.journaled_entity.specs.Keeping.{KeepsEntity}
 use Rattle.journaled_entity.specs.Opened.{OpensAt}
-
--- ---- the home stays
-
-request_home : (e : EntityData) (request : RequestParts) → Came e request (IsKept e) → Came e request (λ x. x.after.home ≡ e.home)
-request_home e request (replied effect is left) = replied effect is left.home
-request_home e request (went_on way) = went_on way
-
-deed_home : (moment : ℕ) (deed : Deed) (e : EntityData) → (done_at moment deed e).home ≡ e.home
-deed_home moment (Ask request) e =
-    let s = swept moment e in
-    left_by s request (λ (x : EntityData). x.home ≡ s.home) refl (request_home s request (kept s request))
-deed_home moment Take e = refl
-deed_home moment Tick e = refl
-
-made_home : (deeds : List Dated) (base : EntityData) → (made_of deeds base).home ≡ base.home
-made_home [] base = refl
-made_home (dated ∷ deeds) base = made_home deeds (made_by dated base) ∙ deed_home dated.moment dated.deed base
-
-pub made_at_home : (home : HomeData) (text : List ℕ) (e : EntityData) → Makes home text e → e.home ≡ home
-made_at_home home text e makes =
-    ap (λ (x : EntityData). x.home) makes.made ∙ made_home makes.deeds makes.base ∙ ap (λ (x : EntityData). x.home) makes.journal.opens.opens
 
 -- ---- the file
 
@@ -108,3 +82,11 @@ pub leaves_opened : {F : Type 0} (moment : F → ℕ) (left_since : F → ℕ �
 leaves_opened {F = F} moment left_since text file left journal opened file_is is leaves =
     let P : F → Type 0 = λ (f : F). LeavesOnly moment left_since file f (KeepsText text) in
     subst P (sym (ap (λ (j : Journal F). j.file) is ∙ file_is)) leaves
+
+-- and as a file that is left as it was
+pub stays_opened : {F : Type 0} (seen : F → List ℕ) (may_leave : F → List ℕ → Type 0) (moment : F → ℕ) (left_since : F → ℕ → List ℕ → Type 0) (file left : F)
+    (journal : Journal F) (opened : KeptData EntityData F) → journal.file ≡ left → opened.journal ≡ journal
+    → StaysAsItWas seen may_leave moment left_since file left → StaysAsItWas seen may_leave moment left_since file opened.journal.file
+stays_opened {F = F} seen may_leave moment left_since file left journal opened file_is is stays =
+    let P : F → Type 0 = λ (f : F). StaysAsItWas seen may_leave moment left_since file f in
+    subst P (sym (ap (λ (j : Journal F). j.file) is ∙ file_is)) stays

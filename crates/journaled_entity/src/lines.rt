@@ -23,8 +23,8 @@ fn is_to_be_written(request: &Request) -> bool {
     !retrieves(request.parts().op) || may_poll(request)
 }
 
-/// Appends the lines of a request, unless it changes nothing. One that has form and can't be kept is
-/// a fault.
+/// Appends the lines of a request, unless it changes nothing. One that has form and can't be kept
+/// is a fault.
 fn push_ask(
     alloc: Global,
     lines: &mut Vec<u8>,
@@ -48,7 +48,7 @@ fn push_ask(
 }
 
 /// Appends the lines of the taking of an item, and tells whether there was memory for them.
-fn push_taking(alloc: Global, lines: &mut Vec<u8>, moment: u64) -> bool
+pub(crate) fn push_taking(alloc: Global, lines: &mut Vec<u8>, moment: u64) -> bool
     requires { moment < moment_bound }
     ensures { lines.new.items ≡ pushed result lines.old.items moment events.Take }
 {

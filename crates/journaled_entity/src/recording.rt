@@ -1,28 +1,38 @@
 //! An entity that writes down what it does.
-ghost use Rattle.std.specs.Prelude.{◌≡◌, ◌<◌, ◌++◌, List, ℕ, length, IfSome, true, false};
-ghost use Rattle.entity_model.specs.Entity.{event_moment};
+ghost use Rattle.std.specs.Prelude.{◌≡◌, ◌<◌, ◌++◌, List, ℕ, length, IfOk, IfSome, OnErr, true};
+ghost use Rattle.std.specs.Prelude.{false};
+ghost use Rattle.entity_model.specs.Entity.{EntityData, event_moment, swept};
 ghost use Rattle.entity_model.specs.Sound.{IsSoundEntity};
 ghost use Rattle.cse_machine.specs.Step.{Step};
 ghost use Rattle.cse_machine.specs.declared.event.Event.TheVariants as events;
+ghost use Rattle.cse_machine.specs.declared.event.Outcome.TheVariants.{Starved};
+ghost use Rattle.journal_events.specs.Steps.{KeptEntityStep, Looks, OnlyExpires, TakesSent};
+ghost use Rattle.journal_events.specs.Steps.{is_next, without_sent};
+ghost use Rattle.journal_events.specs.declared.event.KeptOutcome.TheVariants as outcomes;
 ghost use Rattle.journal_lines.specs.Lines.{IsReadBack, lines_of, moment_bound};
 ghost use Rattle.journal_opening.specs.Journals.{event_deed};
 ghost use Rattle.kept_object.specs.Records.{Records};
-ghost use Rattle.primitive_json.specs.declared.request.RequestParts.{RequestParts};
+ghost use Rattle.journal_lines.specs.declared.deed.Deed.TheVariants.{Take};
 ghost use Rattle.journaled_entity.specs.Changes as spec;
-ghost use Rattle.journaled_entity.specs.Changes.{differs, is_cut_short};
+ghost use Rattle.journaled_entity.specs.Changes.{differs, is_cut_short, is_ticked};
 ghost use Rattle.journaled_entity.specs.Keeping.{KeepsEntity};
 ghost use Rattle.journaled_entity.specs.Written.{pushed};
 
 use crate::changes::may_change;
-use crate::lines::{push_event, push_expiry};
+use crate::lines::{push_event, push_expiry, push_taking};
+use crate::sending::{copied_next, take_numbered};
 use cse_machine::{Event, Outcome, step};
 use entity_model::{Entity, event_moment};
+use journal_events::{KeptEvent, KeptOutcome};
+use journal_opening::snapshot_bytes;
 use kept_object::Recorder;
-use std::alloc::Global;
+use notify_outbox::Item;
+use std::alloc::{AllocError as OutOfMemory, Global};
 use std::marker::Model;
 use tree_model::Tree;
 
-/// An entity that takes one event at a time, by the machine's step; contracts see it as that entity.
+/// An entity that takes one event at a time, each by a step of the machine; contracts see it as
+/// that entity.
 #[derive(Drop)]
 pub struct Journaled<T: Tree> {
     alloc: Global,
@@ -82,6 +92,33 @@ fn is_cut_short(outcome: &Outcome) -> bool
     match outcome {
         Outcome::Starved { done } => *done > 0,
         _ => false,
+    }
+}
+
+/// Whether what was due is gone.
+fn is_ticked(outcome: Outcome) -> bool
+    ensures { result ≡ is_ticked outcome }
+{
+    let ticked = matches!(outcome, Outcome::Ticked);
+    drop(outcome);
+    ticked
+}
+
+/// Memory ran out.
+fn starved() -> KeptOutcome
+    ensures { result ≡ outcomes.OfMachine (Starved 0) }
+{
+    KeptOutcome::OfMachine(Outcome::Starved { done: 0 })
+}
+
+/// Tells the item that was copied, where there was memory for that.
+fn told(copied: Result<Option<Item>, OutOfMemory>) -> KeptOutcome
+    ensures told { IfOk copied (λ given. result ≡ outcomes.Next given) }
+    ensures none { OnErr copied (result ≡ outcomes.OfMachine (Starved 0)) }
+{
+    match copied {
+        Ok(given) => KeptOutcome::Next(given),
+        Err(_) => starved(),
     }
 }
 
@@ -212,12 +249,12 @@ impl<T: Tree> Journaled<T> {
         }
     }
 
-    /// Answers a request that can't be kept: what is due goes, and nothing else is done.
+    /// What is due goes, and nothing else is done, as for want of memory.
     fn pass_over(&mut self, reading: u64, moment: u64, lines: &mut Vec<u8>) -> Option<Outcome>
         requires moment { moment ≡ event_moment self.old.last reading }
         requires small { moment < moment_bound }
-        ensures step { IfSome result (λ outcome. (request : RequestParts)
-            → Step reading (events.Ask request) self.old outcome self.new) }
+        ensures step { IfSome result
+            (λ outcome. OnlyExpires reading self.old outcome self.new) }
         ensures records { IfSome result
             (λ _. Records KeepsEntity self.old lines.old.items self.new lines.new.items) }
         ensures sparing { IfSome result
@@ -227,24 +264,13 @@ impl<T: Tree> Journaled<T> {
         drop(expired);
         Some(Outcome::Starved { done: 0 })
     }
-}
 
-impl<T: Tree> Recorder for Journaled<T> {
-    type Event = Event;
-
-    type Outcome = Outcome;
-
-    ghost step = { Step };
-
-    ghost keeps = { KeepsEntity };
-
-    fn record(&mut self, reading: u64, event: &Event, lines: &mut Vec<u8>) -> Option<Outcome>
-        ensures step { IfSome result
-            (λ outcome. Step reading event.now self.old outcome self.new) }
+    /// Takes a step for an event of the machine. A request that can't be kept isn't done, as for
+    /// want of memory.
+    fn record_event(&mut self, reading: u64, event: &Event, lines: &mut Vec<u8>) -> Option<Outcome>
+        ensures step { IfSome result (λ outcome. Step reading event.now self.old outcome self.new) }
         ensures records { IfSome result
             (λ _. Records KeepsEntity self.old lines.old.items self.new lines.new.items) }
-
-        // Nothing is written of what can't have changed more than the moment.
         ensures sparing { IfSome result (λ outcome. spec.may_change event.now outcome ≡ false
             → differs self.old self.new ≡ false → lines.new.items ≡ lines.old.items) }
     {
@@ -253,6 +279,139 @@ impl<T: Tree> Recorder for Journaled<T> {
         match push_event(self.alloc(), lines, moment, event) {
             Ok(has_own) => self.record_pushed(reading, event, moment, lines, len, has_own),
             Err(_) => self.pass_over(reading, moment, lines),
+        }
+    }
+
+    /// Tells the item that is sent next, behind an expiry of which this came.
+    fn look(&self, ticked: Outcome) -> KeptOutcome
+        ensures { (reading : ℕ) → (before : EntityData)
+            → Step reading events.Tick before ticked self.now
+            → Looks reading before result self.now }
+    {
+        if !is_ticked(ticked) {
+            return starved();
+        }
+        told(copied_next(self.alloc, &self.entity))
+    }
+
+    /// What is due goes, and the item is told that is sent next.
+    fn record_look(&mut self, reading: u64, lines: &mut Vec<u8>) -> Option<KeptOutcome>
+        ensures step { IfSome result (λ outcome. Looks reading self.old outcome self.new) }
+        ensures records { IfSome result
+            (λ _. Records KeepsEntity self.old lines.old.items self.new lines.new.items) }
+        ensures sparing { IfSome result
+            (λ _. differs self.old self.new ≡ false → lines.new.items ≡ lines.old.items) }
+    {
+        let moment = self.moment(reading);
+        let ticked = self.record_expiry(reading, &Event::Tick, moment, lines)?;
+        Some(self.look(ticked))
+    }
+
+    /// Takes the item that is sent next, if it has this number, and tells whether it has.
+    fn take_numbered(&mut self, number: u64) -> bool
+        ensures found { result ≡ is_next number self.old }
+        ensures rest { self.new ≡ without_sent number self.old }
+    {
+        take_numbered(&mut self.entity, number)
+    }
+
+    /// What is due goes, and the item of this number is taken, if it is sent next. The line of its
+    /// taking stands behind so many bytes. It stays where the item was taken, and else goes.
+    fn record_taking(
+        &mut self,
+        reading: u64,
+        number: u64,
+        moment: u64,
+        lines: &mut Vec<u8>,
+        len: usize,
+    ) -> Option<KeptOutcome>
+        requires moment { moment ≡ event_moment self.old.last reading }
+        requires small { moment < moment_bound }
+        ensures step { IfSome result
+            (λ outcome. TakesSent number reading self.old outcome self.new) }
+        ensures records { (front : List ℕ) → length front ≡ len
+            → lines.old.items ≡ front ++ lines_of moment Take
+            → IfSome result (λ _. Records KeepsEntity self.old front self.new lines.new.items) }
+        ensures sparing { (front : List ℕ) → length front ≡ len
+            → lines.old.items ≡ front ++ lines_of moment Take
+            → IfSome result (λ _. is_next number (swept reading self.old) ≡ false
+            → differs self.old self.new ≡ false → lines.new.items ≡ front) }
+    {
+        let (ticked, differs) = self.advance(reading, &Event::Tick);
+        if !is_ticked(ticked) {
+            lines.truncate(len);
+            return Some(starved());
+        }
+        if self.take_numbered(number) {
+            return Some(KeptOutcome::Taken);
+        }
+        lines.truncate(len);
+        if push_expiry(self.alloc(), lines, moment, differs) {
+            Some(KeptOutcome::Taken)
+        } else {
+            None
+        }
+    }
+
+    /// What is due goes, and the item of this number is taken, if it is sent next.
+    fn record_sent(&mut self, reading: u64, number: u64, lines: &mut Vec<u8>) -> Option<KeptOutcome>
+        ensures step { IfSome result
+            (λ outcome. TakesSent number reading self.old outcome self.new) }
+        ensures records { IfSome result
+            (λ _. Records KeepsEntity self.old lines.old.items self.new lines.new.items) }
+        ensures sparing { IfSome result (λ _. is_next number (swept reading self.old) ≡ false
+            → differs self.old self.new ≡ false → lines.new.items ≡ lines.old.items) }
+    {
+        let moment = self.moment(reading);
+        let len = lines.len();
+        if push_taking(self.alloc(), lines, moment) {
+            self.record_taking(reading, number, moment, lines, len)
+        } else {
+            let starved = self.pass_over(reading, moment, lines)?;
+            Some(KeptOutcome::OfMachine(starved))
+        }
+    }
+}
+
+impl<T: Tree> Recorder for Journaled<T> {
+    type Event = KeptEvent;
+
+    type Outcome = KeptOutcome;
+
+    ghost step = { KeptEntityStep };
+
+    ghost keeps = { KeepsEntity };
+
+    fn record(
+        &mut self,
+        reading: u64,
+        event: &KeptEvent,
+        lines: &mut Vec<u8>,
+    ) -> Option<KeptOutcome>
+        ensures step { IfSome result
+            (λ outcome. KeptEntityStep reading event.now self.old outcome self.new) }
+        ensures records { IfSome result
+            (λ _. Records KeepsEntity self.old lines.old.items self.new lines.new.items) }
+
+        // Nothing is written of what can't have changed more than the moment.
+        ensures sparing { IfSome result
+            (λ outcome. spec.may_change_kept reading self.old event.now outcome ≡ false
+            → differs self.old self.new ≡ false → lines.new.items ≡ lines.old.items) }
+    {
+        match event {
+            KeptEvent::OfMachine(asked) => {
+                let outcome = self.record_event(reading, asked, lines)?;
+                Some(KeptOutcome::OfMachine(outcome))
+            }
+            KeptEvent::Next => self.record_look(reading, lines),
+            KeptEvent::Sent(number) => self.record_sent(reading, *number, lines),
+        }
+    }
+
+    fn snapshot(&self) -> Option<Vec<u8>> {
+        match snapshot_bytes(self.alloc, &self.entity) {
+            Ok(bytes) => Some(bytes),
+            Err(_) => None,
         }
     }
 }

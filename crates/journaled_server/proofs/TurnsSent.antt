@@ -1,18 +1,28 @@
--- Turns of an object that is kept go from thread to thread, and so do its reports.
+-- Turns of an entity that is kept go from thread to thread, and so do its reports.
 use denote.Param.Send.{IsSend, sendable}
-use denote.Param.SendFields.{variants_send}
+use denote.Param.SendFields.{declared_send, variants_send}
 use Rattle.std.proofs.Crossing.{crosses}
-use Rattle.cse_machine.specs.contracts.event.Event as event
-use Rattle.cse_machine.specs.contracts.event.Outcome as outcome
-use Rattle.cse_server.proofs.Sent.{event_send, outcome_send}
+use Rattle.notify_outbox.specs.contracts.item.Item as item
+use Rattle.cse_server.proofs.Sent.{event_send, note_send, outcome_send}
+use Rattle.journal_events.specs.contracts.event.KeptEvent as event
+use Rattle.journal_events.specs.contracts.event.KeptOutcome as outcome
 use Rattle.kept_desk.specs.contracts.turn.Report as report
 use Rattle.kept_desk.specs.contracts.turn.Turn as turn
 
+kept_event_send : IsSend event.the_row
+kept_event_send = variants_send event.enum ((event_send, tt), (tt, ((search (sendable, crosses) depth 20, tt), tt)))
+
+item_send : IsSend item.the_row
+item_send = declared_send item.the_type (search (sendable, crosses) depth 20, (search (sendable, crosses) depth 20, (note_send, tt)))
+
+kept_outcome_send : IsSend outcome.the_row
+kept_outcome_send = variants_send outcome.enum ((outcome_send, tt), ((search (sendable, crosses, item_send) depth 20, tt), (tt, tt)))
+
 pub turn_send : IsSend (turn.the_row event.the_row)
-turn_send = variants_send (turn.enum event.the_row) ((search (sendable, event_send) depth 20, tt), (tt, tt))
+turn_send = variants_send (turn.enum event.the_row) ((search (sendable, kept_event_send) depth 20, tt), (tt, tt))
 
 pub report_send : IsSend (report.the_row outcome.the_row)
 report_send = variants_send (report.enum outcome.the_row) (
-  (search (sendable, outcome_send) depth 20, (search (sendable, crosses) depth 20, tt)),
+  (search (sendable, kept_outcome_send) depth 20, (search (sendable, crosses) depth 20, tt)),
   (tt, (tt, tt)),
 )

@@ -1,3 +1,4 @@
 pub mod Plain
 pub mod Joins
+pub mod Sending
 pub mod Serving

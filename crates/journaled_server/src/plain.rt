@@ -1,13 +1,16 @@
 //! A desk that keeps, as a desk of the machine.
 ghost use Rattle.std.specs.Prelude.{◌≡◌};
+ghost use Rattle.kept_desk.specs.declared.turn.Answer.TheVariants.{Kept};
+ghost use Rattle.journaled_server.specs.Plain.{plain_outcome};
 
 use crate::LossSignal;
 use cse_machine::{Event, Outcome};
+use journal_events::{KeptEvent, KeptOutcome};
 use kept_desk::Answer;
 use turn_desk::Desk;
 
-/// A desk that answers what the desk behind it does. Where that one's answer is lost, it answers that
-/// memory ran out, and raises a signal.
+/// A desk of the machine that answers what the desk behind it does. Where that one's answer is
+/// lost, it answers that memory ran out, and raises a signal.
 pub struct PlainDesk<'a, D> {
     behind: &'a D,
     signal: &'a LossSignal,
@@ -31,7 +34,17 @@ impl<'a, D> PlainDesk<'a, D> {
     }
 }
 
-impl<'a, D: Desk<Event = Event, Outcome = Answer<Outcome>>> Desk for PlainDesk<'a, D> {
+/// The outcome of the machine in what came of an event of it.
+fn outcome_of(came: KeptOutcome) -> Outcome
+    ensures { result ≡ plain_outcome (Kept came) }
+{
+    match came {
+        KeptOutcome::OfMachine(outcome) => outcome,
+        KeptOutcome::Next(_) | KeptOutcome::Taken => Outcome::Starved { done: 0 },
+    }
+}
+
+impl<'a, D: Desk<Event = KeptEvent, Outcome = Answer<KeptOutcome>>> Desk for PlainDesk<'a, D> {
     ghost use Rattle.journaled_server.specs.Plain.{PlainGrown};
     ghost use Rattle.journaled_server.specs.Joins.{plain_both, plain_nothing};
 
@@ -50,8 +63,8 @@ impl<'a, D: Desk<Event = Event, Outcome = Answer<Outcome>>> Desk for PlainDesk<'
     ghost grown_on = { plain_both D.grown D.grown_on };
 
     fn ask(&self, seat: &mut D::Seat, reading: u64, event: Event) -> Outcome {
-        match self.behind.ask(seat, reading, event) {
-            Answer::Kept(outcome) => outcome,
+        match self.behind.ask(seat, reading, KeptEvent::OfMachine(event)) {
+            Answer::Kept(came) => outcome_of(came),
             Answer::Lost => {
                 self.signal.raise();
                 Outcome::Starved { done: 0 }

@@ -6,11 +6,12 @@ ghost use Rattle.turn_desk.specs.Seats.{IsSeated};
 ghost use Rattle.workers.specs.Gate.{door_tells};
 ghost use Rattle.workers.specs.Serving.{EndsServing};
 
-use crate::gathering::{Gathering, GatheringDesk};
-use crate::{LossSignal, PlainDesk};
+use crate::{LossSignal, PlainDesk, send_kept};
 use change_signal::{ChangeSignal, SignallingDesk, Watch};
-use cse_machine::{Event, Outcome};
-use cse_server::{Bench, Ended, send_notes, serve_connection};
+use cse_machine::Event;
+use cse_server::{Bench, Ended, serve_connection};
+use gathering_desk::{Gathering, GatheringDesk};
+use journal_events::{KeptEvent, KeptOutcome};
 use kept_desk::{KeptDesk, Report, Turn};
 use m2m_io::{Clock, Connection, Door, Link};
 use primitive_json::retrieves;
@@ -20,15 +21,29 @@ use std::thread::Threads;
 use turn_desk::{Desk, DeskSeat, Object, TurnDesk};
 use workers::{Errand, ServeFault, Service, serve_with};
 
-/// Requests may change what is asked, all but a Retrieve.
+/// Whether the event may change what is asked: requests may, all but a Retrieve.
+fn is_change(event: &Event) -> bool {
+    match event {
+        Event::Ask(request) => !retrieves(request.parts().op),
+        Event::Take | Event::Tick => false,
+    }
+}
+
+/// Requests may change what is asked, and who sends waits for nobody.
 #[derive(Drop)]
 struct OfRequests;
 
 impl Watch<Event> for OfRequests {
     fn may_change(&self, event: &Event) -> bool {
+        is_change(event)
+    }
+}
+
+impl Watch<KeptEvent> for OfRequests {
+    fn may_change(&self, event: &KeptEvent) -> bool {
         match event {
-            Event::Ask(request) => !retrieves(request.parts().op),
-            Event::Take | Event::Tick => false,
+            KeptEvent::OfMachine(event) => is_change(event),
+            KeptEvent::Next | KeptEvent::Sent(_) => false,
         }
     }
 }
@@ -64,7 +79,7 @@ impl<R> Drop for KeptService<'_, R> {
 impl<R, K, X, C, L> Service<K, X, Bench<C, L>, Attended<X>> for KeptService<'_, R>
 where
     R: Wait,
-    K: Desk<Event = Turn<Event>, Outcome = Report<Outcome>>,
+    K: Desk<Event = Turn<KeptEvent>, Outcome = Report<KeptOutcome>>,
     X: Connection + Drop,
     C: Clock,
     L: Link,
@@ -84,7 +99,7 @@ where
         bench: &mut Bench<C, L>,
     ) -> Attended<X> {
         let Bench { clock, link } = bench;
-        let gathered = GatheringDesk::new(desk, self.gathering, self.rt);
+        let gathered = GatheringDesk::new(desk, self.gathering, self.rt, OfRequests);
         let kept = KeptDesk::new(&gathered);
         let plain = PlainDesk::new(&kept, self.losses);
         let asked = SignallingDesk::new(&plain, self.changes, OfRequests);
@@ -93,8 +108,7 @@ where
     }
 }
 
-/// Sends what waits in the outbox, when the signal is given. Each item is sent once it is kept that it
-/// was taken.
+/// Sends what waits in the outbox, when the signal is given. Each item is taken once it was sent.
 struct KeptSender<'a, R> {
     rt: &'a R,
     alloc: Global,
@@ -118,7 +132,7 @@ impl<R> Drop for KeptSender<'_, R> {
 impl<R, K, C, L> Errand<K, Bench<C, L>> for KeptSender<'_, R>
 where
     R: Wait,
-    K: Desk<Event = Turn<Event>, Outcome = Report<Outcome>>,
+    K: Desk<Event = Turn<KeptEvent>, Outcome = Report<KeptOutcome>>,
     C: Clock,
     L: Link,
 {
@@ -131,20 +145,20 @@ where
         self.changes
     }
 
-    // Where memory runs out in sending an item, that item is let go, and what stands behind it in the
-    // outbox waits for the next round. Where it runs out in taking one, that one waits as well.
+    // Where memory runs out in sending an item, that item is let go, and what stands behind it in
+    // the outbox waits for the next round. Where it runs out for a question, all that are there
+    // wait.
     fn run(&self, desk: &K, seat: &mut K::Seat, bench: &mut Bench<C, L>) {
         let Bench { clock, link } = bench;
-        let gathered = GatheringDesk::new(desk, self.gathering, self.rt);
+        let gathered = GatheringDesk::new(desk, self.gathering, self.rt, OfRequests);
         let kept = KeptDesk::new(&gathered);
-        let plain = PlainDesk::new(&kept, self.losses);
-        let _ = send_notes(self.alloc, &plain, seat, clock, link);
+        let _ = send_kept(self.alloc, &kept, self.losses, seat, clock, link);
     }
 }
 
 /// Serves the connections of a door at a desk of a kept object, as `serve` of the crate cse_server
-/// does at one of the machine's: no answer is given before what it tells is kept. Where an answer is
-/// lost, the signal is raised.
+/// does at one of the machine's: no answer is given before what it tells is kept. Where an answer
+/// is lost, the signal is raised.
 pub fn serve_journaled<R, O, D, C, L>(
     rt: &R,
     alloc: Global,
@@ -158,7 +172,7 @@ pub fn serve_journaled<R, O, D, C, L>(
 ) -> Result<(DeskSeat<O>, D), (DeskSeat<O>, D, ServeFault)>
 where
     R: Wait + Threads + Sync,
-    O: Object<Event = Turn<Event>, Outcome = Report<Outcome>> + Send,
+    O: Object<Event = Turn<KeptEvent>, Outcome = Report<KeptOutcome>> + Send,
     D: Door + Send,
     C: Clock + Send + Drop,
     L: Link + Send + Drop,

@@ -19,6 +19,11 @@ pub record TornCut (len : ℕ) (old new : List ℕ) : Type 0 where
   pub no_shorter : min len (length old) ≤ length new
   pub front : new ≡ take (length new) old
 
+-- What a crash leaves of a file of these bytes that is put in the place of another one: that one,
+-- or the new one.
+abbrev pub Replaces : List ℕ → List ℕ → List ℕ → Type 0
+Replaces bytes old new = (new ≡ old) ⊎ (new ≡ bytes)
+
 -- Each content that a crash may leave now comes by such a step from one that it might leave before.
 abbrev pub ComesBy : (List ℕ → List ℕ → Type 0) → (List ℕ → Type 0) → (List ℕ → Type 0) → Type 0
 ComesBy step old new = (c : List ℕ) → new c → (d : List ℕ) × old d × step d c

@@ -40,8 +40,11 @@ pub record StaysButCalls (old new : FileData) : Type 0 where
   pub images : new.images ≡ old.images
   pub synced : new.synced ≡ old.synced
 
-contained_before : {X : Type 0} → (xs : List X) (n : ℕ) (x : X) → Contains (drop n xs) x → Contains xs x
-contained_before xs n x there = subst (λ ys. Contains ys x) (take-append-drop n xs) (Contains-append_right (take n xs) (drop n xs) x there)
+contained_before : {X : Type 0} → (xs : List X) (n : ℕ) (x : X) → Contains (drop n xs) x
+    → Contains xs x
+contained_before xs n x there =
+    subst (λ ys. Contains ys x) (take-append-drop n xs)
+    (Contains-append_right (take n xs) (drop n xs) x there)
 
 -- what may be left now might have been left since any earlier moment
 pub left_now : {X : Type 0} → (xs : List X) (synced t : ℕ) (x : X) → t ≤ synced

@@ -1,14 +1,18 @@
 //! A file that outlives the program: what a read gives of it, and what a crash may leave.
 //!
-//! Between two syncs a crash may leave anything in the place of each write and past the old end, and
-//! the length may be any between the old one and the new one (specs/Crashes); once a sync has
+//! Between two syncs a crash may leave anything in the place of each write and past the old end,
+//! and the length may be any between the old one and the new one (specs/Crashes); once a sync has
 //! succeeded, it leaves what a read gives. `KeptFile` says so of a file that tells it. Its ghost
 //! members have a clock, so that callers can say of a run of calls what a crash at any moment of it
 //! leaves: `left_since` is what might have been left from some moment on, during a call or between
 //! two. A file of the system tells nothing, as no contract can say what it holds.
 //!
+//! A `NamedFile` is one under a name, in whose place another one can be put; until a sync a crash
+//! may leave either.
+//!
 //! `MemFile` is a file in memory, which keeps each content that a crash might have left: of a write
-//! the half of it, another byte all over its place, and the whole. Its calls fail where they are to.
+//! the half of it, another byte all over its place, and the whole. Its calls fail where they are
+//! to.
 //!
 //! ```text
 //! file.write_at(at, b"@1700000000\n")?; // a crash may leave a part of it, or something else there
@@ -20,8 +24,10 @@
 mod fault;
 mod file;
 mod memory;
+mod named;
 
 pub use fault::FileFault;
 pub use file::KeptFile;
 pub use m2m_io::Failed;
 pub use memory::MemFile;
+pub use named::NamedFile;

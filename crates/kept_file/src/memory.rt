@@ -1,18 +1,18 @@
 //! A file in memory.
 ghost use Rattle.std.specs.Prelude.{◌≡◌, ◌≤◌, ◌++◌, ◌∷◌, [], length, take, drop, map, OnOk, OnErr};
 ghost use Rattle.std.specs.Prelude.{IfOk, IsOk, IsErr, ⊤, false};
-ghost use Rattle.kept_file.specs.Crashes.{LeavesThis, Overwrites, TornCut, TornWrite};
+ghost use Rattle.kept_file.specs.Crashes.{LeavesThis, Overwrites, Replaces, TornCut, TornWrite};
 ghost use Rattle.kept_file.specs.Memory.{Adds, FileData, MayLeave, StaysButCalls, contents};
 ghost use Rattle.m2m_io.specs.Counts.{CountsFaults, after_call, fails_next, no_calls};
 
-use crate::{FileFault, KeptFile};
+use crate::{FileFault, KeptFile, NamedFile};
 use m2m_io::Failed;
 use std::alloc::{AllocError, Global};
 use std::marker::Model;
 
 /// A file in memory. It keeps each content that a crash might have left. It fails at the calls that
-/// are to fail, and where the memory that a call needs is refused; of a call that failed, a crash may
-/// leave all that it might of one that succeeded.
+/// are to fail, and where the memory that a call needs is refused; of a call that failed, a crash
+/// may leave all that it might of one that succeeded.
 #[derive(Debug, Drop)]
 pub struct MemFile {
     alloc: Global,
@@ -188,8 +188,24 @@ impl MemFile {
         Ok(front)
     }
 
-    /// Has a read give what is behind a call, unless the call is to fail or found no memory. A crash
-    /// may leave it already.
+    /// These bytes as one more content that a crash may leave; it gives a copy of them.
+    fn add_given(&mut self, bytes: &[u8]) -> Result<Vec<u8>, AllocError>
+        ensures given { IfOk result (λ given. given.items ≡ bytes.now) }
+        ensures left { IfOk result (λ given. MayLeave self.new given.items) }
+        ensures adds { Adds (Replaces bytes.now) self.old self.new }
+        ensures seen { self.new.seen ≡ self.old.seen }
+        ensures calls { self.new.calls ≡ self.old.calls }
+        ensures err { OnErr result (self.new ≡ self.old) }
+    {
+        let alloc = self.alloc;
+        let given = bytes.to_vec(alloc)?;
+        let image = bytes.to_vec(alloc)?;
+        self.add(image)?;
+        Ok(given)
+    }
+
+    /// Has a read give what is behind a call, unless the call is to fail or found no memory. A
+    /// crash may leave it already.
     fn finish(&mut self, fails: bool, torn: Result<Vec<u8>, AllocError>) -> Result<(), Failed>
         requires { IfOk torn (λ after. MayLeave self.old after.items) }
         ensures ok { OnOk result (IfOk torn (λ after. self.new.seen ≡ after.items)) }
@@ -283,5 +299,16 @@ impl KeptFile for MemFile {
             Ok(()) => Ok(()),
             Err(_) => self.fail(),
         }
+    }
+}
+
+impl NamedFile for MemFile {
+    fn replace(&mut self, bytes: &[u8]) -> Result<bool, Failed> {
+        let fails = self.begin();
+        let Ok(given) = self.add_given(bytes) else {
+            return Ok(false);
+        };
+        self.finish(fails, Ok(given))?;
+        Ok(true)
     }
 }

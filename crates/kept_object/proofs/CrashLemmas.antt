@@ -14,7 +14,8 @@ use Rattle.kept_desk.specs.declared.turn.Turn.TheVariants.{Do, Settle}
 use Rattle.kept_desk.specs.declared.turn.Report.{Report}
 use Rattle.kept_desk.specs.declared.turn.Report.TheVariants.{Done, Settled, Failed}
 use Rattle.kept_object.specs.State.{KeptData}
-use Rattle.kept_object.specs.Steps.{DoesEvent, GivesUp, IsPut, KeptStep, NothingWaits, OnTurn, Puts}
+use Rattle.kept_object.specs.Records.{FileKeeps}
+use Rattle.kept_object.specs.Steps.{DoesEvent, GivesUp, IsPut, IsPutOrReplaced, KeepsPutOrReplaced, KeptStep, NothingWaits, OnTurn, Puts}
 use Rattle.kept_object.specs.Crashing.{FileKeepsAFront, IsOpened, KeepsAFront, LosesNoAnswer}
 
 -- ---- reports behind a front
@@ -76,6 +77,7 @@ module _ {X E O F : Type 0} (step : ℕ → E → X → O → X → Type 0) (kee
         split = ap (λ es. es ++ more) front.split ∙ append_assoc front.front front.back more;
         made = front.made;
         run = front.run;
+        works = front.works;
         keeps_it = front.keeps_it;
         holds = λ some. front.holds (fewer (length front.front) some);
       },
@@ -83,11 +85,11 @@ module _ {X E O F : Type 0} (step : ℕ → E → X → O → X → Type 0) (kee
     )
 
     -- all of the turns
-    front_whole : (all more done : List (Reported E O)) (s : KeptData X F) (text c : List ℕ) → Runs Turns opened all s → keeps s.object text
-        → (HasSettled (drop (length all) done) → ⊥) → KeepsText text c → Fronts (all ++ more) done c
-    front_whole all more done s text c run it none kept = (
+    front_whole : (all more done : List (Reported E O)) (s : KeptData X F) (text c : List ℕ) → Runs Turns opened all s → s.journal.is_failed ≡ false
+        → keeps s.object text → (HasSettled (drop (length all) done) → ⊥) → KeepsText text c → Fronts (all ++ more) done c
+    front_whole all more done s text c run works it none kept = (
       text,
-      record { front = all; back = more; split = refl; made = s; run = run; keeps_it = it; holds = none },
+      record { front = all; back = more; split = refl; made = s; run = run; works = works; keeps_it = it; holds = none },
       kept,
     )
 
@@ -120,9 +122,9 @@ module _ {X E O F : Type 0} (step : ℕ → E → X → O → X → Type 0) (kee
       front_quiet : (SaysSettled e.outcome → ⊥) → (c : List ℕ) → Fronts done done c → Fronts longer longer c
       front_quiet silent c front = front_on done (e ∷ []) done longer c (λ n some. unsettled n done e silent some) front
 
-      front_all : (text c : List ℕ) → keeps t.object text → KeepsText text c → Fronts longer longer c
-      front_all text c it kept =
-          subst (λ es. Fronts es longer c) (append-nil longer) (front_whole longer [] longer t text c run_on it (none_behind longer) kept)
+      front_all : t.journal.is_failed ≡ false → (text c : List ℕ) → keeps t.object text → KeepsText text c → Fronts longer longer c
+      front_all works text c it kept =
+          subst (λ es. Fronts es longer c) (append-nil longer) (front_whole longer [] longer t text c run_on works it (none_behind longer) kept)
 
       -- the file is as it was
       untouched : t.journal.file ≡ s.journal.file → LeavesOnly moment left_since s.journal.file t.journal.file (Fronts longer done)
@@ -159,10 +161,10 @@ module _ {X E O F : Type 0} (step : ℕ → E → X → O → X → Type 0) (kee
           → Stands longer t
       all_on text works none it settled is = record {
         run = run_on;
-        now = λ c left. front_all text c it (at_rest_keeps text settled is c left);
+        now = λ c left. front_all works text c it (at_rest_keeps text settled is c left);
         settled = λ _. settled;
         whole = λ _. subst (keeps t.object) (sym (ap (λ l. text_of seen t.journal ++ l) none ∙ append-nil (text_of seen t.journal) ∙ is)) it;
-        text = λ _ c kept. front_all text c it (subst (λ l. KeepsText l c) is kept);
+        text = λ _ c kept. front_all works text c it (subst (λ l. KeepsText l c) is kept);
       }
 
       nothing_waits : s.journal.is_failed ≡ false → NothingWaits s e.outcome t → GoesOn done e s t
@@ -179,26 +181,32 @@ module _ {X E O F : Type 0} (step : ℕ → E → X → O → X → Type 0) (kee
             leaves = untouched file;
           }
 
-      -- what a crash leaves while what waits is put behind the text
-      putting : s.journal.is_failed ≡ false → Puts tells seen may_leave moment left_since s e.outcome t
+      -- all of the turns before
+      front_here : s.journal.is_failed ≡ false → (text c : List ℕ) → keeps s.object text → KeepsText text c → Fronts done done c
+      front_here works text c it kept = subst (λ es. Fronts es done c) (append-nil done) (front_whole done [] done s text c stands.run works it (none_behind done) kept)
+
+      -- what a crash leaves while what waits is put behind the text, and the text is replaced
+      putting : s.journal.is_failed ≡ false → Puts keeps tells seen may_leave moment left_since s e.outcome t
           → LeavesOnly moment left_since s.journal.file t.journal.file (Fronts done done)
       putting works puts =
-          leaves_wider moment left_since s.journal.file t.journal.file (KeepsBeforeOrAfter (text_of seen s.journal) s.pending) (Fronts done done)
-          (λ c. ⊎_elim (stands.text works c) (λ kept. subst (λ es. Fronts es done c) (append-nil done)
-          (front_whole done [] done s (text_of seen s.journal ++ s.pending) c stands.run (stands.whole works) (none_behind done) kept))) (puts.any_moment told)
+          let before : (c : List ℕ) → KeepsBeforeOrAfter (text_of seen s.journal) s.pending c → Fronts done done c =
+          λ c. ⊎_elim (stands.text works c) (λ kept. front_here works (text_of seen s.journal ++ s.pending) c (stands.whole works) kept) in
+          leaves_wider moment left_since s.journal.file t.journal.file (KeepsPutOrReplaced keeps s.object (text_of seen s.journal) s.pending) (Fronts done done)
+          (λ c. ⊎_elim (before c) (λ it. front_here works it.text c it.keeps_it it.keeps_text)) (puts.any_moment told)
 
-      put_leaves : s.journal.is_failed ≡ false → Puts tells seen may_leave moment left_since s e.outcome t
+      put_leaves : s.journal.is_failed ≡ false → Puts keeps tells seen may_leave moment left_since s e.outcome t
           → LeavesOnly moment left_since s.journal.file t.journal.file (Fronts longer done)
       put_leaves works puts =
           leaves_wider moment left_since s.journal.file t.journal.file (Fronts done done) (Fronts longer done) front_kept (putting works puts)
 
-      put_on : s.journal.is_failed ≡ false → Puts tells seen may_leave moment left_since s e.outcome t → IsPut tells seen may_leave s t → GoesOn done e s t
+      put_on : s.journal.is_failed ≡ false → Puts keeps tells seen may_leave moment left_since s e.outcome t → IsPut keeps tells seen may_leave s t → GoesOn done e s t
       put_on works puts put =
           let text = text_of seen s.journal ++ s.pending in
-          let it : keeps t.object text = subst (λ x. keeps x text) (sym put.object) (stands.whole works) in
-          record { stands = all_on text put.works put.pending it (put.settled told) (put.text told); leaves = put_leaves works puts }
+          let old : keeps t.object text = subst (λ x. keeps x text) (sym put.object) (stands.whole works) in
+          let now : keeps t.object (text_of seen t.journal) = ⊎_elim (λ is. subst (keeps t.object) (sym is) old) (λ it. it) (put.text told) in
+          record { stands = all_on (text_of seen t.journal) put.works put.pending now (put.settled told) refl; leaves = put_leaves works puts }
 
-      put_failed : s.journal.is_failed ≡ false → Puts tells seen may_leave moment left_since s e.outcome t → (SaysSettled e.outcome → ⊥)
+      put_failed : s.journal.is_failed ≡ false → Puts keeps tells seen may_leave moment left_since s e.outcome t → (SaysSettled e.outcome → ⊥)
           → t.journal.is_failed ≡ true → GoesOn done e s t
       put_failed works puts silent failed =
           let leaves = putting works puts in
@@ -280,7 +288,7 @@ module _ {X E O F : Type 0} (step : ℕ → E → X → O → X → Type 0) (kee
     opened_stands is =
         let text = text_of seen opened.journal in
         let front : (c : List ℕ) → KeepsText text c → Fronts [] [] c =
-        λ c kept. front_whole [] [] [] opened text c refl is.text (λ none. none) kept in
+        λ c kept. front_whole [] [] [] opened text c refl is.works is.text (λ none. none) kept in
         record {
           run = refl;
           now = λ c left. front c (record { behind = 10 ∷ []; split = is.settled.kept c left ∙ is.settled.rest; shut = refl });

@@ -17,8 +17,8 @@ pub record IsOpened {X F : Type 0} (keeps : X → List ℕ → Type 0) (seen : F
   pub settled : IsSettled seen may_leave opened.journal
   pub text : keeps opened.object (text_of seen opened.journal)
 
--- The text keeps an object that the first of these turns made. Behind them none of those that were
--- done before the crash was reported to be on the disk.
+-- The text keeps an object that the first of these turns made, at none of which the journal failed.
+-- Behind them none of those that were done before the crash was reported to be on the disk.
 pub record KeepsAFront {X E O F : Type 0}
     (turns : ℕ → Turn E → KeptData X F → Report O → KeptData X F → Type 0)
     (keeps : X → List ℕ → Type 0) (opened : KeptData X F)
@@ -28,6 +28,7 @@ pub record KeepsAFront {X E O F : Type 0}
   pub split : all ≡ front ++ back
   pub made : KeptData X F
   pub run : Runs turns opened front made
+  pub works : made.journal.is_failed ≡ false
   pub keeps_it : keeps made.object text
   pub holds : HasSettled (drop (length front) done) → ⊥
 

@@ -1,23 +1,36 @@
 //! The object that is kept.
 ghost use Rattle.std.specs.Prelude.{◌≡◌, [], false};
 ghost use Rattle.kept_object.specs.Records.{IsBatchOrNone};
-ghost use Rattle.kept_object.specs.Steps.{OnEvent, OnSettle};
+ghost use Rattle.kept_object.specs.Steps.{MayReplace, OnEvent, OnSettle};
 ghost use Rattle.journal_file.specs.Gates.{IsReady};
 
 use crate::Recorder;
 use journal_file::Journal;
 use kept_desk::{Report, Turn};
-use kept_file::{Failed, KeptFile};
+use kept_file::{Failed, KeptFile, NamedFile};
 use std::alloc::Global;
 use std::marker::Model;
 use turn_desk::Object;
 
+/// A journal isn't replaced before its text has so many bytes.
+const LEAST: usize = 1_048_576;
+
+/// How often a journal has the bytes of the text that it began with when it is replaced.
+const GROWTH: usize = 4;
+
 /// A recorder, the journal in which its lines are kept, and the lines that wait to be put there.
+/// The journal is replaced by a snapshot of the recorder once its text has `most` bytes.
 #[derive(Drop)]
 pub struct KeptObject<O, F: KeptFile> {
     object: O,
     journal: Journal<F>,
     pending: Vec<u8>,
+    most: usize,
+}
+
+/// How many bytes the text of a journal has at most that began with so many.
+fn most_behind(first: usize) -> usize {
+    first.saturating_mul(GROWTH).max(LEAST)
 }
 
 impl<O, F: KeptFile> Model for KeptObject<O, F> {
@@ -39,8 +52,9 @@ impl<O, F: KeptFile> Model for KeptObject<O, F> {
 }
 
 impl<O, F: KeptFile> KeptObject<O, F> {
-    /// An object with the journal that makes it. Nothing waits.
-    pub fn new(alloc: Global, object: O, journal: Journal<F>) -> KeptObject<O, F>
+    /// An object with the journal that makes it. Nothing waits. The text of the journal begins with
+    /// a text of so many bytes that isn't to be made shorter.
+    pub fn new(alloc: Global, object: O, journal: Journal<F>, first: usize) -> KeptObject<O, F>
         requires ready { F.tells → IsReady F.seen F.may_leave journal }
         ensures object { result.object ≡ object }
         ensures journal { result.journal ≡ journal }
@@ -50,10 +64,12 @@ impl<O, F: KeptFile> KeptObject<O, F> {
             object,
             journal,
             pending: Vec::new(alloc),
+            most: most_behind(first),
         }
     }
 
-    /// Whether the file failed, or something was done that can't be kept. Then nothing more is done.
+    /// Whether the file failed, or something was done that can't be kept. Then nothing more is
+    /// done.
     pub fn is_failed(&self) -> bool
         ensures { result ≡ self.now.journal.is_failed }
     {
@@ -68,7 +84,7 @@ impl<O, F: KeptFile> KeptObject<O, F> {
     }
 }
 
-impl<O: Recorder, F: KeptFile> KeptObject<O, F> {
+impl<O: Recorder, F: NamedFile> KeptObject<O, F> {
     /// The recorder takes a step.
     fn take_step(&mut self, reading: u64, event: &O::Event) -> Report<O::Outcome>
         requires { self.old.journal.is_failed ≡ false }
@@ -86,10 +102,31 @@ impl<O: Recorder, F: KeptFile> KeptObject<O, F> {
         }
     }
 
+    /// Replaces the journal by a snapshot, where the recorder has one and the file can be made.
+    fn replace(&mut self) -> Report<O::Outcome>
+        requires works { self.old.journal.is_failed ≡ false }
+        requires nothing { self.old.pending ≡ [] }
+        ensures { MayReplace O.keeps F.tells F.seen F.may_leave F.moment F.left_since
+            self.old result self.new }
+    {
+        self.most = self.journal.len().saturating_mul(2);
+        let Some(bytes) = self.object.snapshot() else {
+            return Report::Settled;
+        };
+        match self.journal.replace(&bytes) {
+            Ok(true) => {
+                self.most = most_behind(bytes.len());
+                Report::Settled
+            }
+            Ok(false) => Report::Settled,
+            Err(_) => Report::Failed,
+        }
+    }
+
     /// Puts what waits behind the text of the journal.
     fn settle(&mut self) -> Report<O::Outcome>
         requires { self.old.journal.is_failed ≡ false }
-        ensures { OnSettle F.tells F.seen F.may_leave F.moment F.left_since
+        ensures { OnSettle O.keeps F.tells F.seen F.may_leave F.moment F.left_since
             self.old result self.new }
     {
         if self.pending.is_empty() {
@@ -98,14 +135,17 @@ impl<O: Recorder, F: KeptFile> KeptObject<O, F> {
         match self.journal.append(&self.pending) {
             Ok(()) => {
                 self.pending.clear();
-                Report::Settled
+                if self.journal.len() < self.most {
+                    return Report::Settled;
+                }
+                self.replace()
             }
             Err(Failed) => Report::Failed,
         }
     }
 }
 
-impl<O: Recorder, F: KeptFile> Object for KeptObject<O, F> {
+impl<O: Recorder, F: NamedFile> Object for KeptObject<O, F> {
     ghost use Rattle.kept_object.specs.Steps.{KeptStep};
 
     type Event = Turn<O::Event>;

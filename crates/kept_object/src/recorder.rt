@@ -1,6 +1,6 @@
 //! What writes down its steps.
 ghost use Rattle.std.specs.Prelude.{ℕ, List, IfSome};
-ghost use Rattle.kept_object.specs.Records.{Records};
+ghost use Rattle.kept_object.specs.Records.{IsKeptAtRest, Records};
 
 /// What changes by events, answers each, and writes down what has to be played again for it.
 pub trait Recorder {
@@ -27,4 +27,9 @@ pub trait Recorder {
             (λ outcome. step reading event.now self.old outcome self.new) }
         ensures records { IfSome result
             (λ _. Records keeps self.old lines.old.items self.new lines.new.items) };
+
+    /// A text that keeps the object, at rest, so short as it knows. None where it has none, or
+    /// where memory ran out for it.
+    fn snapshot(&self) -> Option<Vec<u8>>
+        ensures keeps { IfSome result (λ bytes. IsKeptAtRest keeps self.now bytes.items) };
 }

@@ -36,5 +36,6 @@ rules_by_id nodes id = option_map_or lent_rules (policy_of nodes id) []
 -- a table has these bits at the number besides, or has no room for them and is as it was
 abbrev pub NotesOrStays : BTreeMap ℕ ℕ → BTreeMap ℕ ℕ → ℕ → ℕ → Type 0
 NotesOrStays old new number bits =
-    (n : ℕ) → (get nat_cmp new n ≡ (if is_at (nat_cmp number) n then Some bits else get nat_cmp old n))
+    (n : ℕ) → (get nat_cmp new n
+    ≡ (if is_at (nat_cmp number) n then Some bits else get nat_cmp old n))
     ⊎ (get nat_cmp new n ≡ get nat_cmp old n)

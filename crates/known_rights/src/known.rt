@@ -8,8 +8,8 @@ use std::alloc::Global;
 use std::collections::BTreeMap;
 
 /// The bits that one originator has by rules which were read already, as the tree stands. What
-/// there is no room for is read again. The tables are ordered, so that a client can't choose numbers
-/// by which a look-up is long.
+/// there is no room for is read again. The tables are ordered, so that a client can't choose
+/// numbers by which a look-up is long.
 #[derive(Drop)]
 pub struct Known {
     // By `pv` of a policy.

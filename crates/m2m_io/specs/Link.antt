@@ -36,6 +36,10 @@ TellsCarried carried old new = Tells (λ told. told ++ made_in carried) old new
 abbrev pub TellsExchange : Option (List Exchange) → Option (List Exchange) → Exchange → Type 0
 TellsExchange old new exchange = Tells (λ told. told ++ exchange ∷ []) old new
 
+-- what is told after one more exchange, which stands behind the others, if any are told
+abbrev pub told_behind : Option (List Exchange) → Exchange → Option (List Exchange)
+told_behind told exchange = option_map (λ told. told ++ exchange ∷ []) told
+
 -- some bytes were appended to the reply, and are told as the answer
 abbrev pub TellsAnswer : Option (List Exchange) → Option (List Exchange) → List ℕ → List ℕ
     → List ℕ → List ℕ → Type 0
@@ -63,7 +67,7 @@ fails_next_exchange link = fails_next link.calls || has_no_answer link.answers
 abbrev pub told_after : LinkData → Exchange → Option (List Exchange)
 told_after link exchange =
     if is_exact (one_more link.calls.made)
-    then option_map (λ told. told ++ exchange ∷ []) link.told else None
+    then told_behind link.told exchange else None
 
 -- the calls after an exchange with this result: it counts as a fault where it failed
 abbrev pub calls_after : {T : Type 0} → Calls → Result T LinkFault → Calls

@@ -11,7 +11,8 @@ ghost use Rattle.m2m_io.specs.Link.{fails_next_exchange, told_after, calls_after
 
 use crate::LinkFault;
 use crate::calls::Calls;
-use std::alloc::{AllocError, Global};
+use crate::exchanges::{Exchanged, Exchanges};
+use std::alloc::Global;
 use std::collections::VecDeque;
 use std::marker::Model;
 
@@ -43,173 +44,26 @@ pub trait Link {
         ensures faults { CountsFault failed result (faults self.old) (faults self.new) };
 }
 
-/// One exchange that a link in memory has made.
-#[derive(Debug, Drop)]
-pub struct Exchanged {
-    host: Vec<u8>,
-    request: Vec<u8>,
-    answer: Option<Vec<u8>>,
-}
-
-impl Model for Exchanged {
-    ghost use Rattle.std.specs.Option.{option_map};
-    ghost use Rattle.m2m_io.specs.Link.{Exchange};
-
-    ghost Value = { Exchange };
-
-    ghost view = { λ e. record {
-      host = e.host.items;
-      request = e.request.items;
-      answer = option_map (λ a. a.items) e.answer;
-    } };
-}
-
-impl Exchanged {
-    fn new(
-        alloc: Global,
-        host: &[u8],
-        request: &[u8],
-        answer: Option<&[u8]>,
-    ) -> Result<Self, AllocError>
-        ensures { IfOk result (λ e. e ≡ record {
-          host = host.now;
-          request = request.now;
-          answer = option_map (λ a. a.now) answer.entry;
-        }) }
-    {
-        let host = Vec::from_slice(alloc, host)?;
-        let request = Vec::from_slice(alloc, request)?;
-        let answer = match answer {
-            None => None,
-            Some(bytes) => Some(Vec::from_slice(alloc, bytes)?),
-        };
-        Ok(Exchanged {
-            host,
-            request,
-            answer,
-        })
-    }
-
-    /// The host that was asked, as it was named: with its port or without.
-    pub fn host(&self) -> &[u8]
-        ensures { result.now ≡ self.now.host }
-    {
-        &self.host
-    }
-
-    /// The bytes of the request.
-    pub fn request(&self) -> &[u8]
-        ensures { result.now ≡ self.now.request }
-    {
-        &self.request
-    }
-
-    /// The bytes of the answer, or `None` where the exchange failed.
-    pub fn answer(&self) -> Option<&[u8]>
-        ensures { option_map (λ a. a.now) result ≡ self.now.answer }
-    {
-        match &self.answer {
-            None => None,
-            Some(bytes) => Some(bytes),
-        }
-    }
-}
-
 /// A link in memory. It gives its answers in order, and tells its exchanges until memory runs out
 /// in one of them or it has had 2^64 - 1 calls.
 #[derive(Debug, Drop)]
 pub struct MemLink {
     answers: VecDeque<Vec<u8>>,
-    told: Option<Vec<Exchanged>>,
+    told: Exchanges,
     calls: Calls,
 }
 
 impl Model for MemLink {
     ghost use Rattle.std.specs.Prelude.{map};
-    ghost use Rattle.std.specs.Option.{option_map};
     ghost use Rattle.m2m_io.specs.Link.{LinkData};
 
     ghost Value = { LinkData };
 
     ghost view = { λ s. record {
       answers = map (λ a. a.items) s.answers.items;
-      told = option_map (λ t. t.items) s.told;
+      told = s.told;
       calls = s.calls;
     } };
-}
-
-/// Puts one more exchange behind those that are told, if any are; after want of memory none are.
-fn tell(
-    alloc: Global,
-    told: &mut Option<Vec<Exchanged>>,
-    host: &[u8],
-    request: &[u8],
-    answer: Option<&[u8]>,
-) -> Result<(), AllocError>
-    ensures ok { OnOk result (option_map (λ t. t.items) told.new
-        ≡ option_map (λ t. t.items ++ record {
-          host = host.now;
-          request = request.now;
-          answer = option_map (λ a. a.now) answer.entry;
-        } ∷ []) told.old) }
-    ensures err { OnErr result (IsNone told.new) }
-{
-    let Some(list) = told else {
-        return Ok(());
-    };
-    match keep(alloc, list, host, request, answer) {
-        Ok(()) => Ok(()),
-        Err(e) => {
-            *told = None;
-            Err(e)
-        }
-    }
-}
-
-fn keep(
-    alloc: Global,
-    list: &mut Vec<Exchanged>,
-    host: &[u8],
-    request: &[u8],
-    answer: Option<&[u8]>,
-) -> Result<(), AllocError>
-    ensures { OnOk result (list.new.items ≡ list.old.items ++ record {
-      host = host.now;
-      request = request.now;
-      answer = option_map (λ a. a.now) answer.entry;
-    } ∷ []) }
-{
-    let exchanged = Exchanged::new(alloc, host, request, answer)?;
-    list.push(exchanged)?;
-    Ok(())
-}
-
-/// Appends an answer to the reply, and tells the exchange. After want of memory the reply is as it
-/// was.
-fn hand_over(
-    alloc: Global,
-    told: &mut Option<Vec<Exchanged>>,
-    host: &[u8],
-    request: &[u8],
-    answer: &[u8],
-    reply: &mut Vec<u8>,
-) -> Result<(), AllocError>
-    ensures told { OnOk result (option_map (λ t. t.items) told.new
-        ≡ option_map (λ t. t.items ++ record {
-          host = host.now;
-          request = request.now;
-          answer = Some answer.now;
-        } ∷ []) told.old) }
-    ensures reply { OnOk result (reply.new.items ≡ reply.old.items ++ answer.now) }
-    ensures err { OnErr result (reply.new.items ≡ reply.old.items) }
-{
-    let start = reply.len();
-    reply.extend_from_slice(answer)?;
-    if let Err(e) = tell(alloc, told, host, request, Some(answer)) {
-        reply.truncate(start);
-        return Err(e);
-    }
-    Ok(())
 }
 
 impl MemLink {
@@ -223,7 +77,7 @@ impl MemLink {
         let alloc = *answers.allocator();
         MemLink {
             answers: VecDeque::from_vec(answers),
-            told: Some(Vec::new(alloc)),
+            told: Exchanges::new(alloc),
             calls: Calls::new(fails),
         }
     }
@@ -232,10 +86,7 @@ impl MemLink {
     pub fn exchanges(&self) -> Option<&[Exchanged]>
         ensures { option_map (λ t. t.now) result ≡ self.now.told }
     {
-        match &self.told {
-            None => None,
-            Some(list) => Some(list),
-        }
+        self.told.list()
     }
 
     /// Stops telling where the calls can't be counted any more.
@@ -245,7 +96,7 @@ impl MemLink {
         } }
     {
         if self.calls.made() == u64::MAX {
-            self.told = None;
+            self.told.hush();
         }
     }
 
@@ -259,7 +110,7 @@ impl MemLink {
         ensures calls { self.new.calls ≡ calls_after self.old.calls result }
         ensures faults { CountsFault failed result self.old.calls.faults self.new.calls.faults }
     {
-        if let Err(_) = tell(alloc, &mut self.told, host, request, None) {
+        if let Err(_) = self.told.tell_failure(alloc, host, request) {
             self.calls.count();
             return Err(LinkFault::OutOfMemory);
         }
@@ -308,8 +159,7 @@ impl Link for MemLink {
         let Some(answer) = self.answers.front() else {
             return self.fail(alloc, host, request);
         };
-        if let Err(_) = hand_over(alloc, &mut self.told, host, request, answer, reply) {
-            self.told = None;
+        if let Err(_) = self.told.hand_over(alloc, host, request, answer, reply) {
             self.calls.count();
             return Err(LinkFault::OutOfMemory);
         }

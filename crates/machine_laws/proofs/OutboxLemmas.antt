@@ -90,13 +90,6 @@ record Holds (e : EntityData) (account : Account) : Type 0 where
   waits : e.items ≡ waiting_of account
   dropped : list_all (is_justly_dropped e.last) account ≡ true
 
--- by what the entity has
-holds_at : (moment : ℕ) (items : List Item) (account : Account) (e : EntityData) → e.last ≡ moment → e.items ≡ items → items ≡ waiting_of account → list_all (is_justly_dropped moment) account ≡ true → Holds e account
-holds_at moment items account e last is waits dropped = record {
-  waits = is ∙ waits;
-  dropped = ap (λ (m : ℕ). list_all (is_justly_dropped m) account) last ∙ dropped;
-}
-
 module _ (reading : ℕ) (e : EntityData) (account : Account) (holds : Holds e account) where
   abbrev moment : ℕ
   moment = event_moment e.last reading

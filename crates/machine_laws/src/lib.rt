@@ -6,6 +6,12 @@
 //! `specs/Sight` names. After each entry of a legal history the outbox holds what was appended, less
 //! what was given away or dropped. That nothing is shown or changed without a grant, and what a
 //! history leaves, stands in guard_laws.
+//!
+//! ```text
+//! what_may_be_served_is_served(); // each call has its law as its contract
+//! equal_sights_are_answered_alike();
+//! a_step_changes_what_is_asked_alone();
+//! ```
 #![tactic(auto)]
 
 mod laws;

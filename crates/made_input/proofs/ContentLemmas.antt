@@ -3,10 +3,6 @@ use Rattle.std.proofs.Common.{◌≡◌, ℕ, List, [], ◌∷◌, ◌++◌, IsU
 use Rattle.std.specs.List.Sorted.{IsStrictlySortedBy}
 use Rattle.m2m_value.specs.Data.{Data, Entry}
 use Rattle.m2m_value.specs.Node.{AreSorted, HaveTextKeys}
-use Rattle.tree_model.proofs.ShownLemmas.{one_sorted}
-
-pub sorted_alone : (es : List Entry) (e : Entry) → es ≡ [] ++ e ∷ [] → AreSorted es
-sorted_alone es e is = subst AreSorted (sym is) (one_sorted e)
 
 ae_sorted : (a b c : Data) → AreSorted ((codes "api", a) ∷ (codes "rn", b) ∷ (codes "rr", c) ∷ [])
 unfolding IsStrictlySortedBy

@@ -1,8 +1,9 @@
 //! The contents of the requests.
-ghost use Rattle.std.specs.Prelude.{◌≡◌, ◌∷◌, [], IfOk};
+ghost use Rattle.std.specs.Prelude.{◌≡◌, IfOk};
 ghost use Rattle.m2m_value.specs.Data as json;
 ghost use Rattle.made_input.specs.Requests as spec;
 
+use entity_model::object_of_one;
 use itoa::Buffer;
 use m2m_names::Ty;
 use m2m_value::{Items, MemberKey, Members, Text, Val};
@@ -12,16 +13,6 @@ fn text_of(alloc: Global, text: &str) -> Result<Val, OutOfMemory>
     ensures { IfOk result (λ v. v ≡ json.text text.now) }
 {
     Ok(Val::of_text(Text::from_slice(alloc, text.as_bytes())?))
-}
-
-// An object of one member.
-#[tactic(auto, using(crate::proofs::ContentLemmas::sorted_alone))]
-fn object_of_one(alloc: Global, key: &'static str, value: Val) -> Result<Val, OutOfMemory>
-    ensures { IfOk result (λ v. v ≡ json.object (json.pairs_of ((key.now, value) ∷ []))) }
-{
-    let mut members = Vec::with_capacity(alloc, 1)?;
-    members.push((MemberKey::named(key), value))?;
-    Ok(Val::of_obj(Members::of(members)))
 }
 
 /// The content that creates a resource of a type with these attributes.

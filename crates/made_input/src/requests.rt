@@ -183,20 +183,22 @@ fn container_number(i: u64) -> u64
     4 + i % 4
 }
 
-// The address of the container of a number, of the four that there are.
-fn address_of(number: u64) -> &'static str
+// The address of the container of a number, of the four that there are, and that of the newest
+// instance in it.
+fn addresses_of(number: u64) -> (&'static str, &'static str)
     requires low { 4 ≤ number }
     requires high { number ≤ 7 }
-    ensures { result.now ≡ spec.address_of number }
+    ensures container { result.0.now ≡ spec.address_of number }
+    ensures newest { result.1.now ≡ spec.newest_of number }
 {
     if number == 4 {
-        "cnt4"
+        ("cnt4", "cnt4/la")
     } else if number == 5 {
-        "cnt5"
+        ("cnt5", "cnt5/la")
     } else if number == 6 {
-        "cnt6"
+        ("cnt6", "cnt6/la")
     } else {
-        "cnt7"
+        ("cnt7", "cnt7/la")
     }
 }
 
@@ -205,7 +207,8 @@ fn container_id(alloc: Global, i: u64) -> Result<Text, OutOfMemory>
     ensures value { IfOk result (λ t. t ≡ spec.container_id i) }
     ensures utf8 { IfOk result (λ t. IsUtf8 t) }
 {
-    Text::from_slice(alloc, address_of(container_number(i)).as_bytes())
+    let (container, _) = addresses_of(container_number(i));
+    Text::from_slice(alloc, container.as_bytes())
 }
 
 // The Create of the instance of a number at an address.
@@ -223,29 +226,13 @@ fn instance_at(alloc: Global, maker: Maker, to: Text, i: u64) -> Result<Request,
     )
 }
 
-// The address of the newest instance of the container of a number, of the four that there are.
-fn newest_of(number: u64) -> &'static str
-    requires low { 4 ≤ number }
-    requires high { number ≤ 7 }
-    ensures { result.now ≡ spec.newest_of number }
-{
-    if number == 4 {
-        "cnt4/la"
-    } else if number == 5 {
-        "cnt5/la"
-    } else if number == 6 {
-        "cnt6/la"
-    } else {
-        "cnt7/la"
-    }
-}
-
 // The address of the newest instance of that container.
 fn newest(alloc: Global, i: u64) -> Result<Text, OutOfMemory>
     ensures value { IfOk result (λ t. t ≡ spec.newest i) }
     ensures utf8 { IfOk result (λ t. IsUtf8 t) }
 {
-    Text::from_slice(alloc, newest_of(container_number(i)).as_bytes())
+    let (_, newest) = addresses_of(container_number(i));
+    Text::from_slice(alloc, newest.as_bytes())
 }
 
 /// Of those that are counted, the one of this number, from 0.

@@ -33,7 +33,7 @@ kept_popped qs new count oldest i x kept pops = record {
         omega arith
 
 -- an item with the next number is put behind the others of its channel
-module _ (qs new : List Queue) (count oldest : ℕ) (x : Item) (number : x.number ≡ count + 1) (kept : AreKept qs count oldest) (puts : Puts (item_channel x) (x ∷ []) qs new) where
+module _ (qs new : List Queue) (count oldest : ℕ) (x : Item) (number : count < x.number) (kept : AreKept qs count oldest) (puts : Puts (item_channel x) (x ∷ []) qs new) where
   less : Each (λ (z : Item). z.number < x.number) (joined qs)
   less = each_weaker (λ (z : Item). z.number ≤ count) (λ (z : Item). z.number < x.number) (λ z le. below z le) (joined qs) kept.numbered
     where
@@ -52,11 +52,11 @@ module _ (qs new : List Queue) (count oldest : ℕ) (x : Item) (number : x.numbe
       let parts = each_parts Q puts.before puts.after (each_weaker P Q f (puts.before ++ puts.after) (subst (Each P) puts.was h)) in
       subst (Each Q) (sym puts.is) (each_append Q puts.before (x ∷ puts.after) parts.0 (q, parts.1))
 
-  pub kept_put : Each (λ (z : Item). z.since ≤ x.since) (in_order (joined qs)) → AreKept new (count + 1) (min oldest x.since)
+  pub kept_put : Each (λ (z : Item). z.since ≤ x.since) (in_order (joined qs)) → AreKept new x.number (min oldest x.since)
   kept_put before = record {
     each = puts.each kept.each ((refl, tt, tt), behind);
     apart = subst AreApart (sym puts.is) (apart_with puts.before puts.after x (subst AreApart puts.was kept.apart) less_parts);
-    numbered = more (λ (z : Item). z.number ≤ count) (λ (z : Item). z.number ≤ count + 1) (λ z le. up z le) (omega (arith, number)) kept.numbered;
+    numbered = more (λ (z : Item). z.number ≤ count) (λ (z : Item). z.number ≤ x.number) (λ z le. up z le) (omega arith) kept.numbered;
     young = more (λ (z : Item). oldest ≤ z.since) (λ (z : Item). min oldest x.since ≤ z.since) (λ z le. young z le) (omega arith) kept.young;
     few = longer;
   }
@@ -64,18 +64,31 @@ module _ (qs new : List Queue) (count oldest : ℕ) (x : Item) (number : x.numbe
       behind : Each (λ y. Each (Precedes y) (x ∷ [])) (joined qs)
       behind = each_with (λ (z : Item). z.number < x.number) (λ (z : Item). z.since ≤ x.since) (λ y. Each (Precedes y) (x ∷ [])) (λ z lt le. ((lt, le), tt)) (joined qs) less (each_unordered (λ (z : Item). z.since ≤ x.since) (joined qs) before)
 
-      up : (z : Item) → z.number ≤ count → z.number ≤ count + 1
-      up z le = omega arith
+      up : (z : Item) → z.number ≤ count → z.number ≤ x.number
+      up z le = omega (arith, number)
 
       young : (z : Item) → oldest ≤ z.since → min oldest x.since ≤ z.since
       young z le = omega arith
 
-      longer : length (joined new) ≤ count + 1
+      longer : length (joined new) ≤ x.number
       longer =
           let was : length (joined qs) ≡ length puts.before + length puts.after = ap length puts.was ∙ length-append puts.before puts.after in
           let is : length (joined new) ≡ length puts.before + length (x ∷ puts.after) = ap length puts.is ∙ length-append puts.before (x ∷ puts.after) in
           let bound : length (joined qs) ≤ count = kept.few in
-          omega arith
+          omega (arith, number)
+
+-- more were numbered
+pub kept_more : (qs : List Queue) (count more oldest : ℕ) → count ≤ more → AreKept qs count oldest → AreKept qs more oldest
+kept_more qs count more oldest le kept = record {
+  each = kept.each;
+  apart = kept.apart;
+  numbered = each_weaker (λ (z : Item). z.number ≤ count) (λ (z : Item). z.number ≤ more) (λ z below. up z below) (joined qs) kept.numbered;
+  young = kept.young;
+  few = (let few = kept.few in omega (arith, le));
+}
+  where
+    up : (z : Item) → z.number ≤ count → z.number ≤ more
+    up z below = omega (arith, le)
 
 pub puts_as : (qs new : List Queue) (channel : Option ℕ) (node : List Item) (x : Item) → channel ≡ item_channel x → node ≡ x ∷ [] → Puts channel node qs new → Puts (item_channel x) (x ∷ []) qs new
 puts_as qs new channel node x at is puts = subst (λ (l : List Item). Puts (item_channel x) l qs new) is (subst (λ (c : Option ℕ). Puts c node qs new) at puts)

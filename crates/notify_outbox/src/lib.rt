@@ -9,6 +9,9 @@
 //! polling channel of the tree, `take_for` the first for a channel. `drop_old` drops what waited
 //! the keeping time.
 //!
+//! An outbox is kept and made again by `copy`, `take_item`, `put_back` and `count_up_to`: the items
+//! of a copy are taken one by one, and put into a new outbox under the numbers that they have.
+//!
 //! Inside, the items for each channel stand in a queue of their own, and so do those for none. So
 //! no take looks at more than the first item of each queue, and nothing is moved. The list that
 //! callers see is that of all queues together, by number.
@@ -21,6 +24,7 @@
 #![tactic(auto)]
 
 mod aging;
+mod copying;
 mod item;
 mod numbering;
 mod outbox;

@@ -1,11 +1,14 @@
 //! The outbox.
-ghost use Rattle.std.specs.Prelude.{◌≡◌, ◌<◌, ◌≤◌, min, [], length, OnOk, option_map};
+ghost use Rattle.std.specs.Prelude.{◌≡◌, ◌<◌, ◌≤◌, min, [], ◌∷◌, ◌++◌, length, find, IfOk, OnOk};
+ghost use Rattle.std.specs.Prelude.{OnErr, option_map};
+ghost use Rattle.m2m_value.specs.Shapes.{largest_count};
 ghost use Rattle.std.specs.List.{AllByRecursion};
 ghost use Rattle.notify_outbox.specs.Items.{is_item, is_to_send, waits_for};
 ghost use Rattle.notify_outbox.specs.Outbox.{appended, dropped, first_note, taken};
 ghost use Rattle.notify_outbox.specs.declared.item.Item.{Item};
 
 use crate::aging::drop_until;
+use crate::copying::copied_queues;
 use crate::item::Item;
 use crate::numbering::{note_channel, under_id};
 use crate::places::{first_for, first_of_all, first_to_send};
@@ -146,6 +149,17 @@ impl Outbox {
         }
     }
 
+    /// Takes the first item, wherever it leads, with its number and its moment.
+    pub fn take_item(&mut self) -> Option<Item>
+        ensures item { result ≡ find is_item self.old.items }
+        ensures rest { self.new ≡ taken is_item self.old }
+    {
+        match first_of_all(&self.queues) {
+            Some(best) => Some(pop(&mut self.queues, best.0)),
+            None => None,
+        }
+    }
+
     /// Takes the first item for a polling channel.
     pub fn take_for(&mut self, channel: u64) -> Option<Note>
         ensures note { result ≡ first_note (waits_for channel) self.old }
@@ -179,6 +193,14 @@ impl Outbox {
         count_all(&self.queues)
     }
 
+    /// How many items were ever numbered.
+    pub fn count(&self) -> u64
+        ensures value { result ≡ self.now.count }
+        ensures bound { result ≤ largest_count }
+    {
+        self.count
+    }
+
     /// The note that `take_for` would give, which stays.
     pub fn first_for(&self, channel: u64) -> Option<&Note>
         ensures { option_map (λ n. n.now) result ≡ first_note (waits_for channel) self.now }
@@ -187,5 +209,67 @@ impl Outbox {
             Some(best) => Some(&front_at(&self.queues, best.0).note),
             None => None,
         }
+    }
+
+    /// The item whose note `take_next` would give, which stays.
+    pub fn first_to_send<T: Tree>(&self, tree: &T) -> Option<&Item>
+        ensures { option_map (λ i. i.now) result
+            ≡ find (is_to_send (T.nodes tree.now)) self.now.items }
+    {
+        match first_to_send(&self.queues, tree) {
+            Some(best) => Some(front_at(&self.queues, best.0)),
+            None => None,
+        }
+    }
+
+    /// An equal outbox, in which there is no room.
+    pub fn copy(&self, alloc: Global) -> Result<Outbox, OutOfMemory>
+        ensures { IfOk result (λ o. o ≡ record self.now { room = 0 }) }
+    {
+        Ok(Outbox {
+            queues: copied_queues(alloc, &self.queues)?,
+            oldest: self.oldest,
+            count: self.count,
+            ids: VecDeque::new(alloc),
+            nodes: LinkedList::new(alloc),
+        })
+    }
+
+    /// Puts an item behind the others that had its number and its moment before. More were numbered
+    /// than before, and none was appended after it. Then there is no room.
+    pub fn put_back(&mut self, alloc: Global, item: Item) -> Result<(), OutOfMemory>
+        requires number { self.old.count < item.number }
+        requires top { item.number ≤ largest_count }
+        requires order { AllByRecursion (λ (i : Item). i.since ≤ item.since) self.old.items }
+        ensures ok { OnOk result (self.new ≡ record {
+          items = self.old.items ++ item ∷ [];
+          count = item.number;
+          room = 0;
+        }) }
+        ensures err { OnErr result (self.new ≡ self.old) }
+    {
+        let (own, moment) = (item.number, item.since);
+        let channel = note_channel(&item.note);
+        let mut node = LinkedList::new(alloc);
+        node.push_back(item)?;
+        self.queues.reserve(1)?;
+        put(&mut self.queues, channel, node);
+        self.ids = VecDeque::new(alloc);
+        self.nodes = LinkedList::new(alloc);
+        self.count = own;
+        let oldest = least_of(self.oldest, moment);
+        self.oldest = oldest;
+        Ok(())
+    }
+
+    /// So many items were numbered, which isn't fewer than before. Then there is no room.
+    pub fn count_up_to(&mut self, alloc: Global, count: u64)
+        requires more { self.old.count ≤ count }
+        requires top { count ≤ largest_count }
+        ensures { self.new ≡ record { items = self.old.items; count = count; room = 0 } }
+    {
+        self.ids = VecDeque::new(alloc);
+        self.nodes = LinkedList::new(alloc);
+        self.count = count;
     }
 }

@@ -7,14 +7,13 @@
 //! (`specs/PeerTalk`).
 //!
 //! ```text
+//! let clock = MemClock::new(readings);
 //! let mut link = PeerLink::new(alloc, entity, clock, Vec::new(alloc));
 //! let reply = carry(alloc, &mut link, b"http://127.0.0.1:8081", &request)?;
 //! ```
 #![tactic(auto)]
 
 mod conn;
-mod exchanges;
 mod link;
 
-pub use exchanges::PastExchange;
 pub use link::PeerLink;

@@ -2,8 +2,8 @@
 //! asked by a walk of its own. It is the body that says what a tree is; `tree_model` has the trait
 //! and all definitions.
 //!
-//! `ListTree` keeps its list (`resource_list`) with a moment before which nothing is due. Callers owe
-//! the conditions of `insert` and `replace`. Only an insert takes memory.
+//! `ListTree` keeps its list (`resource_list`) with a moment before which nothing is due. Callers
+//! owe the conditions of `insert` and `replace`. Only an insert takes memory.
 //!
 //! ```text
 //! let mut tree = ListTree::new(alloc);

@@ -13,6 +13,12 @@
 //! and the first http URL of its `poa`; the `enc` and the `exc` of a subscription; and of a policy
 //! the bits that it has by `pv` and by `pvs`. That is the shape of the list (`specs/Shape`).
 //! Besides, it sees what its rights show, and nothing else.
+//!
+//! ```text
+//! removal_grants_nothing(); // each call has its law as its contract
+//! sight_keeps_rights();
+//! equal_sights_show_the_same();
+//! ```
 #![tactic(auto)]
 
 mod equal_sights;

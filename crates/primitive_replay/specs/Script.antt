@@ -179,10 +179,10 @@ Writes BadStream status replies items old new = ⊥
 
 -- ---- how the lines end
 
--- When the lines end so, what is left behind the lines that were heard and what the source has left now
--- being these, and the next line having this place: it is done where nothing is left; at a bad line
--- where the next one is; at a fault of reading each line that was read to its end was heard; and
--- little was read behind the lines that were heard.
+-- When the lines end so, what is left behind the lines that were heard and what the source has left
+-- now being these, and the next line having this place: it is done where nothing is left; at a bad
+-- line where the next one is; at a fault of reading each line that was read to its end was heard;
+-- and little was read behind the lines that were heard.
 abbrev pub StopsRightly : ℕ → Status → List ℕ → Option (List ℕ) → Type 0
 StopsRightly place Done rest now = (rest ≡ []) × IsAtEnd now
 StopsRightly place Usage rest now = ⊥
@@ -196,8 +196,8 @@ StopsRightly place BadStream rest now = ⊥
 -- ---- all together
 
 -- Lines were replayed, from the first one on, what the objects outside told being first `old` and
--- now `new`. The clock stood at 0 before them, and this was the entity. Of the bytes that the source
--- had left, `heard` are the lines that were taken, and `ended` is how the lines ended.
+-- now `new`. The clock stood at 0 before them, and this was the entity. Of the bytes that the
+-- source had left, `heard` are the lines that were taken, and `ended` is how the lines ended.
 pub record Replays (opening : EntityData) (old new : Outside) (status : Status) : Type 0 where
   pub after : EntityData
   pub heard : List Line

@@ -167,11 +167,11 @@ fn replay_lines<T: Tree, S: Source, O: Sink, L: Link>(
 /// on, in seconds since 1970; or it is a request in JSON. Any other line is bad, and so is one of
 /// more than 131,072 bytes, and the 1,000,001st. Lines are read as they come: each is answered
 /// before more is read than the bytes in which it ended. Behind a bad line nothing is read or
-/// written. Behind the last line the items that are left in the outbox are written, in order, a line
-/// each: where the item is to go (`direct` or `peer` and the URL, `channel` and its id, `nowhere`),
-/// a blank, and its request in JSON. Each line is written by one call of the sink, and one for which
-/// memory ran out isn't begun. A request that goes on to another CSE is carried over the link, and
-/// its exchange gives its reply.
+/// written. Behind the last line the items that are left in the outbox are written, in order, a
+/// line each: where the item is to go (`direct` or `peer` and the URL, `channel` and its id,
+/// `nowhere`), a blank, and its request in JSON. Each line is written by one call of the sink, and
+/// one for which memory ran out isn't begun. A request that goes on to another CSE is carried over
+/// the link, and its exchange gives its reply.
 ///
 /// A line is answered in time linear in it beside its event, and the bytes held and the room for
 /// reading one, which is kept from line to line, are at most some multiple of the longest line. So

@@ -1,5 +1,5 @@
 -- The order in which a Create is refused, by what it names.
-use Rattle.std.proofs.Common.{◌≡◌, ℕ, List, [], ◌∷◌, ◌++◌, Bool, true, false, Option, Some, None, unwrap_or, if◌then◌else◌, refl, ap, ◌∙◌}
+use Rattle.std.proofs.Common.{◌≡◌, ℕ, List, [], ◌∷◌, ◌++◌, Bool, true, false, Option, Some, unwrap_or, if◌then◌else◌, refl, ap, ◌∙◌}
 use Rattle.std.specs.Option.{option_map_or, option_or}
 use Rattle.m2m_names.specs.declared.codes.Rsc.TheVariants.{BadRequest, Conflict, NotAcceptable}
 use Rattle.m2m_names.specs.declared.operations.Op.TheVariants.{Create}
@@ -14,7 +14,7 @@ use Rattle.entity_model.specs.Entity.{EntityData}
 use Rattle.request_rules.specs.Order.{creation_by, content_places, creation_places, fault_creation, fault_named, fault_new, member_places, named_places, new_places}
 use Rattle.entity_model.specs.Places.{Check, first_fault, unless}
 use Rattle.request_rules.specs.Requests.{admits, admits_content, child_ty, content_for, is_content_for, named_by, named_for}
-use Rattle.request_rules.proofs.EditingLemmas.{content_admits, no_content}
+use Rattle.request_rules.proofs.EditingLemmas.{content_admits}
 use Rattle.request_rules.proofs.OrderLemmas.{first_fault-append}
 
 -- what a Create names
@@ -48,9 +48,6 @@ creation_refused e o request parent ty es child content =
         ∙ ap (λ (x : List Entry). option_or (fault_named e x) (first_fault (creation_places Create e o request parent))) (named_is request parent ty es child content)
         ∙ ap (λ (x : List Check). option_or (fault_named e es) (first_fault x)) (new_is e o request parent ty es child content)
     by_admission false = refl
-
-pub creation_names_none : (e : EntityData) (o : List ℕ) (request : RequestParts) (parent : ResourceData) (ty : Ty) → child_ty request ≡ Some ty → content_for request ty ≡ None → first_fault (content_places Create e request parent ++ creation_places Create e o request parent) ≡ Some BadRequest
-creation_names_none e o request parent ty child none = admitting e o request parent false (of_type request parent ty child ∙ no_content Creating request ty none)
 
 -- ---- what is created is refused by the first that doesn't hold
 

@@ -1,15 +1,15 @@
 -- Contents that name attributes, and the order in which an Update is refused by them.
-use Rattle.std.proofs.Common.{◌≡◌, ℕ, List, [], ◌∷◌, ◌++◌, Bool, true, false, not, ◌&&◌, Option, Some, None, option_and_then, unwrap_or, if◌then◌else◌, refl, sym, ap, ◌∙◌}
+use Rattle.std.proofs.Common.{◌≡◌, ℕ, List, [], ◌∷◌, ◌++◌, Bool, true, false, not, ◌&&◌, Option, Some, None, unwrap_or, if◌then◌else◌, refl, sym, ap, ◌∙◌}
 use Rattle.std.proofs.lemmas.Bool.{and_parts, both_ways}
 use Rattle.std.specs.Option.{option_map_or, option_or}
 use Rattle.m2m_names.specs.declared.codes.Rsc.TheVariants.{BadRequest}
 use Rattle.m2m_names.specs.declared.operations.Op.TheVariants.{Update}
 use Rattle.m2m_names.specs.declared.types.Ty.{Ty}
-use Rattle.m2m_value.specs.Data.{Data, Entry}
+use Rattle.m2m_value.specs.Data.{Entry}
 use Rattle.m2m_value.specs.Node.{AreSorted}
 use Rattle.primitive_json.specs.declared.request.RequestParts.{RequestParts}
 use Rattle.resource_model.specs.Resource.{ResourceData}
-use Rattle.attribute_rules.specs.Admission.{are_admitted, attributes_in, is_admitted}
+use Rattle.attribute_rules.specs.Admission.{are_admitted}
 use Rattle.attribute_rules.specs.declared.table.Writing.{Writing}
 use Rattle.attribute_rules.specs.declared.table.Writing.TheVariants.{Update as Updating}
 use Rattle.entity_model.specs.Entity.{EntityData}
@@ -43,14 +43,6 @@ pub admitted_for : (writing : Writing) (request : RequestParts) (ty : Ty) (es : 
 admitted_for writing request ty es is names =
     (and_parts (are_in_order es && not (names_copy es)) (are_admitted writing ty es) (sym (content_admits writing request ty es names) ∙ is)).1
 
--- a content is admitted where what it names is
-pub attributes_admitted : (writing : Writing) (ty : Ty) (content : Data) (es : List Entry) → attributes_in ty content ≡ Some es → is_admitted writing ty content ≡ are_admitted writing ty es
-attributes_admitted writing ty content es names = ap (λ (x : Option (List Entry)). option_map_or (are_admitted writing ty) x false) names
-
--- the attributes that the content of a request names
-pub content_names : (request : RequestParts) (ty : Ty) (content : Data) (es : List Entry) → request.pc ≡ Some content → attributes_in ty content ≡ Some es → content_for request ty ≡ Some es
-content_names request ty content es is names = ap (option_and_then (attributes_in ty)) is ∙ names
-
 -- ---- an Update
 
 module _ (e : EntityData) (o : List ℕ) (request : RequestParts) (r : ResourceData) where
@@ -67,6 +59,3 @@ module _ (e : EntityData) (o : List ℕ) (request : RequestParts) (r : ResourceD
           first_fault-append (named_places e (named_by Update request r)) (creation_places Update e o request r)
           ∙ ap (λ (x : Option (List Entry)). option_or (fault_named e (unwrap_or x [])) (first_fault (edit_places e r (unwrap_or x [])))) names
       by_admission false = refl
-
-  pub edit_names_none : content_for request r.ty ≡ None → first_fault (content_places Update e request r ++ creation_places Update e o request r) ≡ Some BadRequest
-  edit_names_none none = admitting false (no_content Updating request r.ty none)

@@ -1,24 +1,14 @@
 -- Texts without repeats, and how many they are; members that are looked at one by one.
 use Rattle.std.specs.Prelude.{nat_le}
-use Rattle.std.proofs.Common.{◌≡◌, ℕ, ◌+◌, ◌<◌, List, [], ◌∷◌, ◌++◌, length, map, Bool, true, false, ◌&&◌, ◌||◌, bytes_eq, inl, inr, refl, sym, ap, ◌∙◌, append_assoc, arith, length-append}
+use Rattle.std.proofs.Common.{◌≡◌, ℕ, ◌+◌, ◌<◌, List, [], ◌∷◌, ◌++◌, length, map, Bool, true, false, ◌&&◌, ◌||◌, inl, inr, refl, sym, ap, ◌∙◌, append_assoc, arith, length-append}
 use Rattle.std.proofs.lemmas.Bool.{cases_Bool}
 use Rattle.std.proofs.lemmas.Bool.Decides.{nat_tests}
-use Rattle.std.proofs.lemmas.List.{append-nil, map-append}
+use Rattle.std.proofs.lemmas.List.{map-append}
 use Rattle.std.proofs.lemmas.List.Folds.{list_all-append}
 use Rattle.std.specs.List.{list_all, list_any}
 use Rattle.m2m_value.specs.Data.{Data, text}
 use Rattle.entity_model.specs.Entity.{EntityData}
-use Rattle.request_rules.specs.Groups.{MembershipData, is_left_out, is_live_member, kept_among, new_after}
-
--- those of one list after another
-pub new_after-append : (seen xs ys : List (List ℕ)) → new_after seen (xs ++ ys) ≡ new_after seen xs ++ new_after (seen ++ new_after seen xs) ys
-new_after-append seen [] ys = ap (λ (s : List (List ℕ)). new_after s ys) (sym (append-nil seen))
-new_after-append seen (x ∷ xs) ys = elim (cases_Bool (list_any (bytes_eq x) seen)) [
-  | inl t ↦ rw t (new_after-append seen xs ys)
-  | inr f ↦
-      rw f (ap (λ (rest : List (List ℕ)). x ∷ rest) (new_after-append (seen ++ x ∷ []) xs ys
-      ∙ ap (λ (s : List (List ℕ)). new_after (seen ++ x ∷ []) xs ++ new_after s ys) (append_assoc seen (x ∷ []) (new_after (seen ++ x ∷ []) xs))))
-]
+use Rattle.request_rules.specs.Groups.{MembershipData, is_left_out, is_live_member, kept_among}
 
 -- where a front of them is too many, they are
 pub too_many : (front back all : List (List ℕ)) (most : ℕ) → front ++ back ≡ all → most < length front → nat_le (length all) most ≡ false

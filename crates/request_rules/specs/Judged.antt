@@ -26,8 +26,8 @@ Judges (Err (Fault f)) fault IsSo = fault ≡ Some f
 Judges (Err OutOfMemory) fault IsSo = ⊤
 
 -- These are the parent and the type of the Create that a request asks for on the resource of a
--- number of a sound entity, the attributes that its content names, the name, the expiry and the size
--- of a content by these, and what a group keeps of its members.
+-- number of a sound entity, the attributes that its content names, the name, the expiry and the
+-- size of a content by these, and what a group keeps of its members.
 pub record IsCreateOf (e : EntityData) (request : RequestParts) (n : ℕ) (create : AllowedCreate)
     : Type 0 where
   pub sound : IsSoundEntity e

@@ -4,8 +4,9 @@ use m2m_value::{Members, Text, Val};
 use tree_model::Resource;
 
 /// A Create that no place refuses, and what was learned of it: the parent of the new resource, its
-/// type, the attributes that the content names, its name, the moment at which it expires, in seconds
-/// since 1970, the size in bytes of a content, and the attributes in which a group keeps its members.
+/// type, the attributes that the content names, its name, the moment at which it expires, in
+/// seconds since 1970, the size in bytes of a content, and the attributes in which a group keeps
+/// its members.
 #[derive(Drop)]
 pub struct AllowedCreate<'a> {
     pub parent: &'a Resource,

@@ -42,8 +42,8 @@ pub(crate) fn named_expiry(members: &Members) -> Option<u64>
     read_stamp(value_named(Attr::Et, members)?.as_text()?.entries())
 }
 
-/// The moment of expiry that a content names, in seconds since 1970, and the last one where it names
-/// none.
+/// The moment of expiry that a content names, in seconds since 1970, and the last one where it
+/// names none.
 pub fn expiry_for(members: &Members) -> u64
     ensures value { result ≡ spec.expiry_for members.now }
     ensures last { result ≤ last_moment }

@@ -1,7 +1,7 @@
 //! The members that a group is to have.
 ghost use Rattle.std.specs.Prelude.{◌≡◌, ◌==◌, ◌<◌, ◌&&◌, ◌||◌, ◌∷◌, ◌++◌, [], bytes_eq, length};
-ghost use Rattle.std.specs.Prelude.{map, nat_le, pos, IfOk, IfSome, IsUtf8, OnOk, None, Some, ℕ, List};
-ghost use Rattle.std.specs.Prelude.{false, option_map, if◌then◌else◌};
+ghost use Rattle.std.specs.Prelude.{map, nat_le, pos, IfOk, IfSome, IsUtf8, OnOk, None, Some, ℕ};
+ghost use Rattle.std.specs.Prelude.{List, false, option_map, if◌then◌else◌};
 ghost use Rattle.std.specs.List.{AllByRecursion, list_all, list_any};
 ghost use Rattle.std.specs.Option.{option_map_or};
 ghost use Rattle.m2m_names.specs.Ids.{count_bound};
@@ -371,7 +371,8 @@ fn push_counts(
     requires strategy { strategy < count_bound }
     requires count { count < count_bound }
     ensures { OnOk result (rows.new.items ≡ rows.old.items
-        ++ (Csy, number (pos strategy)) ∷ (Cnm, number (pos count)) ∷ (Mtv, boolean are_live) ∷ []) }
+        ++ (Csy, number (pos strategy)) ∷ (Cnm, number (pos count)) ∷ (Mtv, boolean are_live)
+        ∷ []) }
 {
     rows.push((Attr::Csy, number_of(strategy)))?;
     rows.push((Attr::Cnm, number_of(count)))?;

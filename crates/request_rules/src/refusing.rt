@@ -52,8 +52,8 @@ pub(crate) fn judge_content<T: Tree>(
     Ok(None)
 }
 
-/// Judges a creation below a resource that was found: by the members that a group is to have, by what
-/// stands there, and by limits. What isn't refused hands on what was learned of it.
+/// Judges a creation below a resource that was found: by the members that a group is to have, by
+/// what stands there, and by limits. What isn't refused hands on what was learned of it.
 pub(crate) fn judge_creation<'a, T: Tree>(
     alloc: Global,
     entity: &Entity<T>,

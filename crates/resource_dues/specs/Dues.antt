@@ -27,7 +27,8 @@ AreTold nodes entries = (r : ResourceData) (moment : ℕ) → at r.number nodes 
 
 -- what one has told the other tells too
 abbrev pub TellsAll : List (ℕ × ℕ) → List (ℕ × ℕ) → Type 0
-TellsAll before after = (moment n : ℕ) → is_told moment n before ≡ true → is_told moment n after ≡ true
+TellsAll before after =
+    (moment n : ℕ) → is_told moment n before ≡ true → is_told moment n after ≡ true
 
 -- a table that is whole tells of each resource that will be due
 abbrev pub HasDues : List ResourceData → Dues → Type 0

@@ -22,8 +22,8 @@ const MOST: u64 = 8;
 
 /// Moments with the numbers of the resources that are due then, the earliest first. A resource may
 /// have an entry that is too early, and never one that is too late; that of one that has gone stays
-/// for a while. What is due at the last moment that there is, as most resources are that nobody gave
-/// an expiry, has none.
+/// for a while. What is due at the last moment that there is, as most resources are that nobody
+/// gave an expiry, has none.
 #[derive(Drop)]
 pub struct Dues {
     pub moments: BTreeSet<(u64, u64)>,

@@ -15,7 +15,8 @@ module _ {S : Type 0} where
   pub record IsStore (order : List ℕ) (m : HashMap ℕ ResourceData S) (count : ℕ) : Type 0 where
     pub ascends : DoAscend order
     pub numbered : (n : ℕ) (r : ResourceData) → get nat_eq m n ≡ Some r → r.number ≡ n
-    pub listed : (n : ℕ) (r : ResourceData) → get nat_eq m n ≡ Some r → list_any (nat_eq n) order ≡ true
+    pub listed : (n : ℕ) (r : ResourceData) → get nat_eq m n ≡ Some r
+        → list_any (nat_eq n) order ≡ true
     pub counted : count ≡ length (resources_of order m)
 
   -- and they are a tree
@@ -27,4 +28,5 @@ module _ {S : Type 0} where
   pub record KeepsPresent (m : HashMap ℕ ResourceData S) (before after : List ℕ) : Type 0 where
     pub kept : resources_of after m ≡ resources_of before m
     pub ascends : DoAscend before → DoAscend after
-    pub listed : (n : ℕ) (r : ResourceData) → get nat_eq m n ≡ Some r → list_any (nat_eq n) before ≡ true → list_any (nat_eq n) after ≡ true
+    pub listed : (n : ℕ) (r : ResourceData) → get nat_eq m n ≡ Some r
+        → list_any (nat_eq n) before ≡ true → list_any (nat_eq n) after ≡ true

@@ -2,12 +2,12 @@
 //! look-up, and none of the others moves.
 //!
 //! To callers a `Store` is the list of its resources in order of creation, in which their numbers
-//! ascend; that it is a tree is its invariant. It keeps them in a table by number, and beside it the
-//! numbers in order. A number whose resource has gone stays in that order for a while; where more
-//! than half of them have gone, they are let go in one pass. What was taken out is freed later, some
-//! at each `push` and `free_some`, so that a removal of many is short. Callers owe the conditions of
-//! `push` and `replace`, and that what is taken out has nothing below it. Only `push` and
-//! `overdue_numbers` fail for want of memory.
+//! ascend; that it is a tree is its invariant. It keeps them in a table by number, and beside it
+//! the numbers in order. A number whose resource has gone stays in that order for a while; where
+//! more than half of them have gone, they are let go in one pass. What was taken out is freed
+//! later, some at each `push` and `free_some`, so that a removal of many is short. Callers owe the
+//! conditions of `push` and `replace`, and that what is taken out has nothing below it. Only `push`
+//! and `overdue_numbers` fail for want of memory.
 //!
 //! ```text
 //! let mut store = Store::new(alloc, Seeded::of(seed));

@@ -135,8 +135,8 @@ impl IndexTree {
         self.named.note_gone(&self.list, number, parent);
     }
 
-    // Where most moments stand for resources that have gone, these moments go. Some of what was taken
-    // out is freed.
+    // Where most moments stand for resources that have gone, these moments go. Some of what was
+    // taken out is freed.
     fn tidy(&mut self)
         ensures { self.new ≡ self.old }
     {

@@ -59,9 +59,6 @@ lists_some labels (Some ds) = any_swapped is_that_label labels ds
 pub no_label : (labels : List (List ℕ)) (d : Data) → as_text d ≡ None → is_label_of labels d ≡ false
 no_label labels d none = rw none (any_never labels)
 
-pub text_label : (labels : List (List ℕ)) (d : Data) (text : List ℕ) → as_text d ≡ Some text → is_label_of labels d ≡ is_one_of labels text
-text_label labels d text is = rw is refl
-
 -- ---- one more in a set
 
 apart_in_order : (bs cs ks : List ℕ) → bytes_eq bs cs ≡ false → is_eq (slice_cmp nat_cmp bs ks) ≡ true → is_eq (slice_cmp nat_cmp cs ks) ≡ false

@@ -116,17 +116,6 @@ module _ (goes : ResourceData → Bool) where
       let same : left ≡ left - forest_size bare = omega arith in
       (ap (λ f. with_forest members (cut_forest f left) es) (sym nothing), same ∙ ap (λ f. left - forest_size f) (sym nothing))
 
-  -- one that is gone to adds its object, with what is shown below it
-  pub shown_alone : (members : ResourceData → List Entry) (nodes : List ResourceData) (left : ℕ) (r : ResourceData) (es : List Entry) → goes r ≡ true → 0 < left → with_forest members (cut_forest (reached_forest goes nodes r) left) es ≡ with_last (ty_member r.ty) (object (pairs_of (with_forest members (cut_forest (forest_of goes r.number nodes) (left - 1)) (members r)))) es
-  shown_alone members nodes left r es gone some =
-      ap (λ f. with_forest members (cut_forest f left) es) (here_true nodes r gone)
-      ∙ ap (λ f. with_forest members f es) (cut_more left r (forest_of goes r.number nodes) bare some)
-
-  pub size_alone : (nodes : List ResourceData) (r : ResourceData) → goes r ≡ true → forest_size (reached_forest goes nodes r) ≡ forest_size (forest_of goes r.number nodes) + 1
-  size_alone nodes r gone =
-      let size : forest_size (reached_forest goes nodes r) ≡ length (r ∷ preorder (forest_of goes r.number nodes)) = ap forest_size (here_true nodes r gone) ∙ ap (λ (rs : List ResourceData). length (r ∷ rs)) (append-nil (preorder (forest_of goes r.number nodes))) in
-      omega (arith, size)
-
   -- where nothing more is shown, or no child is left, all that is shown has been
   pub stopped : (members : ResourceData → List Entry) (f : Forest) (left n : ℕ) (es all : List Entry) → left ≡ 0 → with_forest members (cut_forest f left) es ≡ all → left - forest_size f ≡ n → (es ≡ all) × (left ≡ n)
   stopped members f left n es all nothing shown size =

@@ -27,8 +27,8 @@ without_waiting channel e = record e { items = without_first (waits_for channel)
 abbrev pub handed_on : NoteParts → Data
 handed_on note = object (pairs_of ((codes "m2m:rqp", written_request note.request) ∷ []))
 
--- The first item that waits for the channel is given and removed; where none does, the time that the
--- request had to wait has passed at once (the profile's).
+-- The first item that waits for the channel is given and removed; where none does, the time that
+-- the request had to wait has passed at once (the profile's).
 abbrev pub given_first : ℕ → EntityData → RequestParts → Effect
 given_first channel e request = option_map_or
     (λ note. record {

@@ -1,5 +1,5 @@
 //! What a Retrieve shows.
-ghost use Rattle.std.specs.Prelude.{◌≡◌, ◌∷◌, [], codes, IfOk, IsTrue, Some};
+ghost use Rattle.std.specs.Prelude.{◌≡◌, IfOk, IsTrue, Some};
 ghost use Rattle.m2m_names.specs.Name.{is_originator};
 ghost use Rattle.tree_model.specs.Tree.{at, is_tree};
 ghost use Rattle.retrieve_discover.specs.Contents as spec;
@@ -9,9 +9,9 @@ use crate::descendants::add_descendants;
 use crate::look::{Viewer, object_members};
 use crate::references::references;
 use crate::replies;
-use entity_model::wanted_content;
+use entity_model::{object_of_one, wanted_content};
 use known_rights::{Asker, Known};
-use m2m_value::{MemberKey, Members, Val};
+use m2m_value::{MemberKey, Val};
 use primitive_json::Request;
 use std::alloc::{AllocError as OutOfMemory, Global};
 use tree_model::{Home, Resource, Tree, attributes, under_type};
@@ -134,18 +134,9 @@ fn references_alone<T: Tree>(
         (T.nodes look.now.tree.now) look.now.asker.now.originator look.now.by_id target.now) }
 {
     let children = references(alloc, look, target)?;
-    under_type(alloc, target.ty(), only_member(alloc, "ch", children)?)
-}
-
-/// The members of an object that has one.
-pub(crate) fn only_member(
-    alloc: Global,
-    key: &'static str,
-    value: Val,
-) -> Result<Members, OutOfMemory>
-    ensures { IfOk result (λ m. m ≡ (key.now, value) ∷ []) }
-{
-    let mut members = Vec::with_capacity(alloc, 1)?;
-    members.push((MemberKey::named(key), value))?;
-    Ok(Members::of(members))
+    object_of_one(
+        alloc,
+        target.ty().member(),
+        object_of_one(alloc, "ch", children)?,
+    )
 }

@@ -36,11 +36,13 @@ pub(crate) fn add_descendants<T: Tree>(
     ensures members { OnOk result (members.new
         ≡ spec.with_forest (spec.members look.now.asker.now.home (T.nodes look.now.tree.now))
         (cut_forest (forest_of
-        (spec.may_retrieve look.now.asker.now.home (T.nodes look.now.tree.now) look.now.asker.now.originator)
+        (spec.may_retrieve look.now.asker.now.home (T.nodes look.now.tree.now)
+        look.now.asker.now.originator)
         parent (T.nodes look.now.tree.now)) left.old) members.old) }
     ensures left { OnOk result (left.new ≡ left.old - forest_size
         (forest_of
-        (spec.may_retrieve look.now.asker.now.home (T.nodes look.now.tree.now) look.now.asker.now.originator)
+        (spec.may_retrieve look.now.asker.now.home (T.nodes look.now.tree.now)
+        look.now.asker.now.originator)
         parent (T.nodes look.now.tree.now))) }
     ensures keys { OnOk result (HaveTextKeys members.old → HaveTextKeys members.new) }
     ensures known { OnOk result (IsKnown look.now.asker.now.home (T.nodes look.now.tree.now)
@@ -77,10 +79,12 @@ fn add_child<T: Tree>(
     ensures members { OnOk result (members.new
         ≡ spec.with_forest (spec.members look.now.asker.now.home (T.nodes look.now.tree.now))
         (cut_forest (reached_forest
-        (spec.may_retrieve look.now.asker.now.home (T.nodes look.now.tree.now) look.now.asker.now.originator)
+        (spec.may_retrieve look.now.asker.now.home (T.nodes look.now.tree.now)
+        look.now.asker.now.originator)
         (T.nodes look.now.tree.now) child.now) left.old) members.old) }
     ensures left { OnOk result (left.new ≡ left.old - forest_size (reached_forest
-        (spec.may_retrieve look.now.asker.now.home (T.nodes look.now.tree.now) look.now.asker.now.originator)
+        (spec.may_retrieve look.now.asker.now.home (T.nodes look.now.tree.now)
+        look.now.asker.now.originator)
         (T.nodes look.now.tree.now) child.now)) }
     ensures keys { OnOk result (HaveTextKeys members.old → HaveTextKeys members.new) }
     ensures known { OnOk result (IsKnown look.now.asker.now.home (T.nodes look.now.tree.now)

@@ -11,10 +11,10 @@ use crate::finding::{Discovery, find_below};
 use crate::paths::path_to;
 use crate::references::MOST_LISTED;
 use crate::replies::{is_by_id, succeed};
-use entity_model::refuse;
+use entity_model::{object_of_one, refuse};
 use known_rights::{Asker, Known};
 use m2m_names::{DISCOVERY_BIT, Rsc};
-use m2m_value::{Items, MemberKey, Members, Val};
+use m2m_value::{Items, Val};
 use policy_eval::granted;
 use primitive_json::{Filter, FilterParts, Reply, Request};
 use std::alloc::{AllocError as OutOfMemory, Global};
@@ -134,7 +134,8 @@ fn from_target<T: Tree>(
     requires resource { IsTrue (has target (T.nodes wanted.now.tree.now)) }
     ensures { IfOk result (λ v. v.items ≡ take wanted.now.limit
         (map (spec.address wanted.now.by_id (T.nodes wanted.now.tree.now))
-        (spec.all_found wanted.now.asker.now.home (T.nodes wanted.now.tree.now) wanted.now.asker.now.originator
+        (spec.all_found wanted.now.asker.now.home (T.nodes wanted.now.tree.now)
+        wanted.now.asker.now.originator
         wanted.now.filter.now target))) }
 {
     match wanted.tree.get(target) {
@@ -153,7 +154,8 @@ fn from_resource<T: Tree>(
     requires target { at target.now.number (T.nodes wanted.now.tree.now) ≡ Some target.now }
     ensures { IfOk result (λ v. v.items ≡ take wanted.now.limit
         (map (spec.address wanted.now.by_id (T.nodes wanted.now.tree.now))
-        (spec.all_found wanted.now.asker.now.home (T.nodes wanted.now.tree.now) wanted.now.asker.now.originator
+        (spec.all_found wanted.now.asker.now.home (T.nodes wanted.now.tree.now)
+        wanted.now.asker.now.originator
         wanted.now.filter.now target.now.number))) }
 {
     let mut path = path_to(alloc, wanted.tree, target)?;
@@ -174,8 +176,5 @@ fn from_resource<T: Tree>(
 fn address_list(alloc: Global, addresses: Vec<Val>) -> Result<Val, OutOfMemory>
     ensures { IfOk result (λ v. v ≡ spec.address_list addresses.items) }
 {
-    let key = MemberKey::named("m2m:uril");
-    let mut members = Vec::with_capacity(alloc, 1)?;
-    members.push((key, Val::of_list(Items::of(addresses))))?;
-    Ok(Val::of_obj(Members::of(members)))
+    object_of_one(alloc, "m2m:uril", Val::of_list(Items::of(addresses)))
 }

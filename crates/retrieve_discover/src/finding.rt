@@ -48,7 +48,8 @@ pub(crate) fn find_below<T: Tree>(
         wanted.now.asker.now.originator known.old }
     ensures found { OnOk result (found.new.items ≡ take wanted.now.limit
         (found.old.items ++ map (spec.address wanted.now.by_id (T.nodes wanted.now.tree.now))
-        (spec.all_found wanted.now.asker.now.home (T.nodes wanted.now.tree.now) wanted.now.asker.now.originator
+        (spec.all_found wanted.now.asker.now.home (T.nodes wanted.now.tree.now)
+        wanted.now.asker.now.originator
         wanted.now.filter.now parent))) }
     ensures path { OnOk result (path.new.items ≡ path.old.items) }
     ensures known { OnOk result (IsKnown wanted.now.asker.now.home (T.nodes wanted.now.tree.now)

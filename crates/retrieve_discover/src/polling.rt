@@ -1,13 +1,13 @@
 //! Polls.
-ghost use Rattle.std.specs.Prelude.{◌≡◌, IfOk, OnErr, OnOk, IsTrue, option_map};
+ghost use Rattle.std.specs.Prelude.{◌≡◌, IfOk, OnErr, IsTrue, option_map};
 ghost use Rattle.m2m_names.specs.Name.{is_originator};
 ghost use Rattle.tree_model.specs.Tree.{has};
 ghost use Rattle.policy_eval.specs.Rights.{grants, retrieve_bit};
+ghost use Rattle.entity_model.specs.Places.{ComesTo};
 ghost use Rattle.retrieve_discover.specs.Polling as spec;
 
-use crate::contents::only_member;
 use crate::replies::succeed;
-use entity_model::{Entity, refuse};
+use entity_model::{Entity, object_of_one, refuse};
 use m2m_names::{Op, Rsc};
 use m2m_value::Val;
 use policy_eval::granted;
@@ -28,10 +28,8 @@ pub fn poll<T: Tree>(
 ) -> Result<Reply, OutOfMemory>
     requires originator { IsTrue (is_originator originator.now) }
     requires resource { IsTrue (has channel entity.old.nodes) }
-    ensures reply { IfOk result (λ r.
-        r ≡ (spec.polled entity.old originator.now request.now channel).reply) }
-    ensures after { OnOk result
-        (entity.new ≡ (spec.polled entity.old originator.now request.now channel).after) }
+    ensures gives { ComesTo result entity.new
+        (spec.polled entity.old originator.now request.now channel) }
     ensures err { OnErr result (entity.new ≡ entity.old) }
 {
     if !may_poll(entity, originator, channel) {
@@ -57,10 +55,8 @@ fn give_first<T: Tree>(
     request: &Request,
     channel: u64,
 ) -> Result<Reply, OutOfMemory>
-    ensures reply { IfOk result (λ r.
-        r ≡ (spec.given_first channel entity.old request.now).reply) }
-    ensures after { OnOk result
-        (entity.new ≡ (spec.given_first channel entity.old request.now).after) }
+    ensures gives { ComesTo result entity.new
+        (spec.given_first channel entity.old request.now) }
     ensures err { OnErr result (entity.new ≡ entity.old) }
 {
     let Some(content) = first_content(alloc, entity, channel)? else {
@@ -90,7 +86,7 @@ fn handed_on(alloc: Global, note: &Note) -> Result<Val, OutOfMemory>
     ensures { IfOk result (λ v. v ≡ spec.handed_on note.now) }
 {
     let request = write_request(alloc, &note.parts().request)?;
-    Ok(Val::of_obj(only_member(alloc, "m2m:rqp", request)?))
+    object_of_one(alloc, "m2m:rqp", request)
 }
 
 // Removes the first item that waits for the channel.

@@ -27,7 +27,8 @@ pub(crate) fn references<T: Tree>(
     requires tree { IsTrue (is_tree (T.nodes look.now.tree.now)) }
     requires originator { IsTrue (is_originator look.now.asker.now.originator) }
     requires target { at target.now.number (T.nodes look.now.tree.now) ≡ Some target.now }
-    ensures { IfOk result (λ v. v ≡ spec.references look.now.asker.now.home (T.nodes look.now.tree.now)
+    ensures { IfOk result (λ v. v ≡ spec.references look.now.asker.now.home
+        (T.nodes look.now.tree.now)
         look.now.asker.now.originator look.now.by_id target.now.number) }
 {
     Ok(Val::of_list(Items::of(all_references(alloc, look, target)?)))
@@ -43,7 +44,8 @@ fn all_references<T: Tree>(
     requires target { at target.now.number (T.nodes look.now.tree.now) ≡ Some target.now }
     ensures { IfOk result (λ v. v.items
         ≡ map (spec.reference look.now.by_id (T.nodes look.now.tree.now))
-        (spec.referred look.now.asker.now.home (T.nodes look.now.tree.now) look.now.asker.now.originator
+        (spec.referred look.now.asker.now.home (T.nodes look.now.tree.now)
+        look.now.asker.now.originator
         target.now.number)) }
 {
     let mut path = path_to(alloc, look.tree, target)?;
@@ -83,7 +85,8 @@ fn add_reference<T: Tree>(
     ensures value { OnOk result (references.new.items ≡ references.old.items
         ++ map (spec.reference look.now.by_id (T.nodes look.now.tree.now))
         (filter
-        (spec.may_retrieve look.now.asker.now.home (T.nodes look.now.tree.now) look.now.asker.now.originator)
+        (spec.may_retrieve look.now.asker.now.home (T.nodes look.now.tree.now)
+        look.now.asker.now.originator)
         (child.now ∷ []))) }
     ensures path { OnOk result (path.new.items ≡ path.old.items) }
     ensures known { OnOk result (IsKnown look.now.asker.now.home (T.nodes look.now.tree.now)

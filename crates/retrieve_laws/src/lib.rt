@@ -4,6 +4,11 @@
 //! clause of a function without a body, about the definitions of addressing and retrieve_discover.
 //! Nothing is shown or found without a grant, and what a reply tells of other resources is told by
 //! right.
+//!
+//! ```text
+//! nothing_is_shown_or_found_without_a_grant(); // each call has its law as its contract
+//! what_is_shown_is_a_filter();
+//! ```
 #![tactic(auto)]
 
 mod rights;

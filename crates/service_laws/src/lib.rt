@@ -5,6 +5,12 @@
 //! one way, and two entities of which an originator sees the same answer its stream alike. The
 //! answer of another CSE to a request that goes on is what its machine gives. Each reply repeats
 //! the identifier of its request.
+//!
+//! ```text
+//! a_connection_shows_and_changes_by_grant_alone(); // each call has its law as its contract
+//! a_stream_is_answered_in_one_way();
+//! what_goes_on_is_answered_there();
+//! ```
 #![tactic(auto)]
 
 mod laws;

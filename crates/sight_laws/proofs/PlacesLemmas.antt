@@ -1,9 +1,10 @@
 -- A Create and an Update are refused by the same place on what their originator sees.
 use Rattle.sight_laws.proofs.Words.{◌+◌, ◌==◌, nat_le, nat_lt, ◌≡◌, ℕ, List, [], length, Bool, true, false, cond, not, ◌&&◌, Option, Some, None, inl, inr, refl, sym, ap, ap₂, ◌∙◌, option_and_then, option_map_or}
-use Rattle.sight_laws.proofs.Terms.{Csy, Csi, Mbs, Mia, Mid, Mni, Mnm, Mt, Rsc, BadRequest, Conflict, NoPrivilege, NotAcceptable, NotAllowed, Create, Update, Ty, Ae, Container, ContentInstance, Group, PollingChannel, RemoteCse, Subscription, Entry, RequestParts, ResourceData, is_ty, is_named, named_text, at, is_channel, level_of, is_within, limits_of, Limits, create_bit, grants, retrieve_bit, update_bit, fills, has_bit, may_use, seen, seen_list, EntityData, first_fault, creation_of, largest_count, greatest_count, greatest_depth, largest_size, own_cse_id, has_place, is_below, has_room, is_free_cse_id, is_single, is_small, is_unique, new_ae_id, new_name, new_size, takes_instance, MembershipData, does_edit_members, have_addresses, membership_edited, membership_new, child_fault, creation_by, creation_places, edit_places, expires_later, fault_new, fault_on, member_places, new_places, links_live, admits_content, child_ty, content_for, is_for, named_by, named_for, takes_child, create_bits, is_relink, is_subscribing, may_do}
+use Rattle.sight_laws.proofs.Terms.{Csy, Csi, Mbs, Mia, Mid, Mni, Mnm, Mt, Rsc, BadRequest, Conflict, NoPrivilege, NotAcceptable, NotAllowed, Create, Update, Ty, Ae, ContentInstance, Group, PollingChannel, RemoteCse, Subscription, Entry, RequestParts, ResourceData, is_ty, is_named, named_text, at, is_channel, level_of, is_within, limits_of, Limits, create_bit, grants, retrieve_bit, update_bit, fills, has_bit, may_use, seen, seen_list, EntityData, first_fault, creation_of, largest_count, greatest_count, greatest_depth, largest_size, own_cse_id, has_place, is_below, has_room, is_free_cse_id, is_single, is_small, is_unique, new_ae_id, new_name, new_size, takes_instance, MembershipData, does_edit_members, have_addresses, membership_edited, membership_new, child_fault, creation_by, creation_places, edit_places, expires_later, fault_new, fault_on, member_places, new_places, links_live, admits_content, child_ty, content_for, is_for, named_by, named_for, takes_child, create_bits, is_relink, is_subscribing, may_do}
 use Rattle.sight_laws.proofs.Facts.{and_from, and_parts, both_ways, cases_Bool, eqb-true, or_left, length-map, same_type, KeepsStanding, has_ae_id-map, has_child-map, has_cse_id-map, list_any-map, ae_id-seen, cse_id-seen, grants-seen, relinks-seen, seen_shows, names_link}
 use Rattle.std.specs.Prelude.{bytes_eq}
 use Rattle.m2m_names.specs.Types.{does_take, ty_of_number, ty_row}
+use Rattle.create_delete.proofs.InstanceLemmas.{takes_is_container}
 use Rattle.sight_laws.proofs.MapLemmas.{line-map}
 use Rattle.sight_laws.specs.Sight.{sight}
 use Rattle.sight_laws.proofs.NamedLemmas.{links-seen, member_places-seen}
@@ -21,10 +22,6 @@ by_right true type false content later live fault new other same = refl
 by_right true type true content later live fault new other same = ap (refusal_by true type true content later live fault) (same refl refl)
 
 -- ---- who may fill a container, and what has instances
-
-holds_instances : (ty : Ty) → does_take ty ContentInstance ≡ true → is_ty ty Container ≡ true
-holds_instances Container takes = refl
-holds_instances _ takes = absurd (both_ways _ refl takes)
 
 -- what names a content instance names no subscription
 not_subscribing : (request : RequestParts) → child_ty request ≡ Some ContentInstance → is_subscribing request ≡ false
@@ -123,7 +120,7 @@ module _ (e : EntityData) (o : List ℕ) where
       let right : grants e.home e.nodes o create_bit p.number ≡ true = sym (ap (λ (n : ℕ). grants e.home e.nodes o n p.number) bits) ∙ may in
       let here : has_bit e.home e.nodes o create_bit p ≡ true = rw there at right in
       let holds : does_take p.ty ContentInstance ≡ true = sym (ap (λ (x : Option Ty). option_map_or (does_take p.ty) x false) named) ∙ takes in
-      and_from _ _ (holds_instances p.ty holds) (or_left _ _ here)
+      and_from _ _ (takes_is_container p.ty holds) (or_left _ _ here)
 
   new_seen : (request : RequestParts) (p : ResourceData) → at p.number e.nodes ≡ Some p → may_do Create e o request p.number ≡ true → takes_child Create request p ≡ true → first_fault (creation_places Create seeing o request (see p)) ≡ first_fault (creation_places Create e o request p)
   new_seen request p there may takes = by (child_ty request) refl

@@ -32,9 +32,6 @@ module _ (o : List ℕ) (one other : EntityData) (same : sight o one ≡ sight o
   pub same_last : one.last ≡ other.last
   same_last = ap (λ (e : EntityData). e.last) same
 
-  pub same_next : one.next ≡ other.next
-  same_next = ap (λ (e : EntityData). e.next) same
-
   pub same_seen : seen_list one.home one.nodes o ≡ seen_list one.home other.nodes o
   same_seen = ap (λ (e : EntityData). e.nodes) same ∙ ap (λ (h : HomeData). seen_list h other.nodes o) (sym same_home)
 

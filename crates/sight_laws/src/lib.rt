@@ -8,6 +8,12 @@
 //! Update that names no policies and no rules; and the originator sees the same of what they leave.
 //! So it does after subscriptions are told of what was created, changed or removed: who is told, and
 //! how often, is seen by everyone.
+//!
+//! ```text
+//! a_refusal_is_seen(); // each call has its law as its contract
+//! a_create_is_seen_alike();
+//! an_update_is_seen_alike();
+//! ```
 #![tactic(auto)]
 
 mod laws;

@@ -144,8 +144,8 @@ fn put_marked(kept: &mut Vec<Draft>, drafts: Vec<Draft>, marks: &[bool])
     }
 }
 
-/// Keeps of an operation's drafts, in their order, those that are to be kept, and gives what is left
-/// to each subscription that counts and is told something: the numbers of these, in order of
+/// Keeps of an operation's drafts, in their order, those that are to be kept, and gives what is
+/// left to each subscription that counts and is told something: the numbers of these, in order of
 /// creation, each with how many notifications are left to it, none where it goes. The tree is the
 /// one before the operation. Where memory runs out, the drafts are as they were. Where no
 /// subscription counts, no memory is taken.

@@ -16,6 +16,7 @@
 //! minute at most, on the log.
 //!
 //! ```text
+//! let log = Log::new(rt, alloc, LogLevel::Faults)?;
 //! let mut link = TcpLink::new(log);
 //! link.exchange(alloc, b"127.0.0.1:8081", request, &mut answer)?;
 //! ```

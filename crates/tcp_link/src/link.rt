@@ -202,8 +202,8 @@ where
 
     /// Such a link that waits no longer than `SHORT_PATIENCE` in an exchange. Where a request was
     /// sent and its answer didn't come by then, the exchange is a fault, and the answer is awaited
-    /// beside those that follow. Until it comes a few more requests go to that destination, and none
-    /// of them is waited for; behind these it is passed over. Where it doesn't come within
+    /// beside those that follow. Until it comes a few more requests go to that destination, and
+    /// none of them is waited for; behind these it is passed over. Where it doesn't come within
     /// `PATIENCE`, the destination failed. One that has begun to answer hasn't.
     pub fn impatient(log: Log<R>) -> Self
         ensures exchanges { ⟦<TcpLink<R> as Link>⟧.exchanges result ≡ None }

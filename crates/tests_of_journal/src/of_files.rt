@@ -1,7 +1,8 @@
 //! A file of the system.
-use disk_file::{DiskFile, OpenFault};
+use disk_file::{DiskFile, DiskName, NamedDiskFile, OpenFault};
 use journal_file::{Journal, close_behind};
-use kept_file::KeptFile;
+use kept_file::{KeptFile, NamedFile};
+use kept_name::put_in_place;
 use std::alloc::Global;
 use std::fs;
 use std::process::Abort;
@@ -33,10 +34,22 @@ fn append(mut file: DiskFile) -> Result<(), Fail> {
     Ok(())
 }
 
-/// Puts another file in the place of one.
-fn replace(rt: &HostRuntime, file: DiskFile) -> Result<(), Fail> {
-    let _other = file.replace(rt, NAME, b"[]\n\n")?;
+/// Puts another file in the place of the one that has the name.
+fn replace(rt: &HostRuntime) -> Result<(), Fail> {
+    let mut name = DiskName::new(rt, NAME)?;
+    let _other: DiskFile = put_in_place(&mut name, b"[]\n\n")?;
     Ok(())
+}
+
+/// Puts another file in the place of one that is open, writes to it, and tells whether that was
+/// done and whether who opens it meanwhile is told so.
+fn replace_open(rt: &HostRuntime) -> Result<bool, Fail> {
+    let mut file = NamedDiskFile::open(rt, NAME, FIRST)?;
+    let done = file.replace(b"()\n\n")?;
+    file.write_at(4, b"@2\n")?;
+    file.sync()?;
+    let second = DiskFile::open(rt, NAME, FIRST);
+    Ok(done && matches!(second, Err(OpenFault::Busy)))
 }
 
 #[test]
@@ -46,8 +59,10 @@ fn a_file_of_the_system_is_opened_again(rt: HostRuntime) -> Result<(), Fail> {
     assert!(rt; is_locked(&rt)?);
     append(DiskFile::open(&rt, NAME, FIRST)?)?;
     assert_eq!(rt; bytes_of(&rt)?.as_slice(), b"{}\n@1\na\n\n".as_slice());
-    replace(&rt, DiskFile::open(&rt, NAME, FIRST)?)?;
+    replace(&rt)?;
     assert_eq!(rt; bytes_of(&rt)?.as_slice(), b"[]\n\n".as_slice());
+    assert!(rt; replace_open(&rt)?);
+    assert_eq!(rt; bytes_of(&rt)?.as_slice(), b"()\n\n@2\n".as_slice());
     fs::remove_file(&rt, NAME)?;
     Ok(())
 }

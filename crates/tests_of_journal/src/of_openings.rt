@@ -46,6 +46,28 @@ const BEGUN: &str =
 @200|tick|| => no header
  => no header"#;
 
+/// A file whose journal begins with a snapshot, with a deed behind it.
+const SHORTENED: &str =
+    r#"[1,{"admin":"CAdmin","base":"cse-in","csi":"id-in","cst":1,"sp":"sp.example"},[3,100,0],[2,0]]
+[[1,5,0],"cse-in","CAdmin",[100,100,253402300799],{"acpi":["acp2"]}]
+[[2,1,1],"acp-admin","CAdmin",[100,100,253402300799],{}]
+@200
+tick
+
+"#;
+
+/// What stands in that file, what is put in its place, and as what it is opened then or why it is
+/// refused.
+const DAMAGES: [(&str, &str, &str); 7] = [
+    ("tick", "take", "2 at 200"),
+    ("[1,{", "{", "no header"),
+    ("[1,{", "[2,{", "another format"),
+    ("\"id-in\"", "\"id-mn\"", "another home"),
+    ("[2,1,1]", "[1,1,1]", "snapshot line 3"),
+    ("[3,100,0]", "[2,100,0]", "unsound"),
+    ("tick", "tock", "line 4"),
+];
+
 fn push_ends(bytes: &mut Vec<u8>, text: &str) -> Result<(), OutOfMemory> {
     for byte in text.as_bytes() {
         bytes.push(if *byte == b'|' { b'\n' } else { *byte })?;
@@ -63,6 +85,8 @@ fn told(
             format!(in alloc; "{count} at {last}")
         }
         Err(OpeningFault::BadLine(number)) => format!(in alloc; "line {number}"),
+        Err(OpeningFault::BadSnapshot(number)) => format!(in alloc; "snapshot line {number}"),
+        Err(OpeningFault::Unsound) => String::from_str(alloc, "unsound"),
         Err(OpeningFault::NoHeader) => String::from_str(alloc, "no header"),
         Err(OpeningFault::OtherFormat) => String::from_str(alloc, "another format"),
         Err(OpeningFault::OtherHome) => String::from_str(alloc, "another home"),
@@ -120,6 +144,16 @@ fn files_that_are_ready_or_refused_stay(rt: HostRuntime) -> Result<(), Fail> {
         let mut bytes = Vec::new(alloc);
         push_ends(&mut bytes, text)?;
         assert!(rt; stays(alloc, &bytes, answer)?);
+    }
+    Ok(())
+}
+
+#[test]
+fn files_that_begin_with_a_snapshot_stay(rt: HostRuntime) -> Result<(), Fail> {
+    let alloc = rt.alloc();
+    for (whole, damaged, answer) in DAMAGES {
+        let text = SHORTENED.replace(alloc, whole, damaged)?;
+        assert!(rt; stays(alloc, text.as_str().as_bytes(), answer)?);
     }
     Ok(())
 }

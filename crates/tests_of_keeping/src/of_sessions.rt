@@ -3,7 +3,7 @@ ghost use Rattle.kept_file.specs.Crashes.{LeavesThis};
 ghost use Rattle.kept_file.specs.Memory.{MayLeave};
 
 use crate::pictures::{picture, picture_by, pictures};
-use crate::session::{LAST, OPENED, SESSION, event_of, home};
+use crate::session::{LAST, OPENED, SENT, SESSION, event_of, home};
 use entity_model::Entity;
 use journal_opening::{Played, first_text, play_back};
 use journaled_entity::{Journaled, open_kept};
@@ -37,7 +37,8 @@ fn opened(rt: &(impl Abort + AllocGlobal), fails: u64) -> Kept {
     let alloc = rt.alloc();
     let first = first_text(alloc, &home(rt), OPENED).expect(rt, "a header");
     let file = file_of(rt, &first, fails);
-    open_kept(alloc, home(rt), IndexTree::new(alloc), file).expect(rt, "a journal")
+    let opened = open_kept(alloc, home(rt), IndexTree::new(alloc), file);
+    opened.ok().expect(rt, "a journal")
 }
 
 /// Asks an event at a seat that holds its object, and tells whether an answer is given.
@@ -78,12 +79,23 @@ fn reopened(rt: &(impl Abort + AllocGlobal), bytes: &[u8]) -> Entity<IndexTree> 
     let alloc = rt.alloc();
     let mut file = file_of(rt, bytes, 0);
     let played = play_back(alloc, &mut file, home(rt), IndexTree::new(alloc));
-    let Played { entity, len: _ } = played.expect(rt, "a journal");
+    let Played { entity, .. } = played.expect(rt, "a journal");
     entity
 }
 
-/// What a crash has left opens as the CSE that the first events of the session made, and among these
-/// is each one up to a moment.
+/// An item that was looked at, and of which it isn't said yet that it is sent, is there to be sent
+/// next.
+fn assert_waits(rt: &(impl Abort + AllocGlobal), entity: &Entity<IndexTree>) {
+    let next = entity.outbox.first_to_send(&entity.tree);
+    for (looked, sent, number) in SENT {
+        if looked <= entity.last.saturating_add(1) && entity.last < sent {
+            assert!(rt; next.is_some_and(|item| item.number == number));
+        }
+    }
+}
+
+/// What a crash has left opens as the CSE that the first events of the session made, and among
+/// these is each one up to a moment.
 fn assert_holds(
     rt: &(impl Abort + AllocGlobal),
     pictures: &[Vec<u8>],
@@ -92,6 +104,7 @@ fn assert_holds(
 ) {
     let entity = reopened(rt, bytes);
     let done = entity.last;
+    assert_waits(rt, &entity);
     let there = picture(rt, entity);
     assert_eq!(rt; there.as_slice(), picture_by(rt, pictures, done));
     // What was answered behind that moment changed nothing but the moment.
@@ -114,8 +127,8 @@ fn assert_keeps(rt: &(impl Abort + AllocGlobal), pictures: &[Vec<u8>], call: u64
 }
 
 /// The file fails at each call of a session of fifty requests. Whichever it is, each content that a
-/// crash may leave then opens as the CSE that the first of the requests made, among which is each one
-/// that was answered.
+/// crash may leave then opens as the CSE that the first of the requests made, among which is each
+/// one that was answered.
 #[test]
 fn each_call_that_fails_leaves_what_was_answered(rt: HostRuntime) -> Result<(), Fail> {
     let pictures = pictures(&rt)?;

@@ -70,8 +70,8 @@ fn picture_of(alloc: Global, entity: Entity<IndexTree>) -> Result<Vec<u8>, OutOf
     Ok(out)
 }
 
-/// All that an entity has: the number of its next resource, each resource by all that is kept of it,
-/// and each item of its outbox.
+/// All that an entity has: the number of its next resource, each resource by all that is kept of
+/// it, and each item of its outbox.
 pub(crate) fn picture(rt: &(impl Abort + AllocGlobal), entity: Entity<IndexTree>) -> Vec<u8> {
     picture_of(rt.alloc(), entity).expect(rt, "memory")
 }

@@ -1,6 +1,7 @@
 //! The session: what is asked of the CSE, one event a second.
 use cse_machine::{Event, step};
 use entity_model::Entity;
+use journal_events::KeptEvent;
 use m2m_value::read;
 use primitive_json::request_from;
 use resource_model::Home;
@@ -10,9 +11,9 @@ use std::process::Abort;
 
 /// Fifty requests, and the sender, which takes an item now and then. Among them: what changes
 /// nothing (refused, absent, a discovery, the newest instance); a container that expires before a
-/// refused request, and one that expires before a poll; a subscription of which an URL and a polling
-/// channel are told; polls, which take what they are given; instances that push others out; and a
-/// fan-out.
+/// refused request, and one that expires before a poll; a subscription of which an URL and a
+/// polling channel are told; polls, which take what they are given; instances that push others out;
+/// and a fan-out.
 pub(crate) const SESSION: &str =
     r#"{"op":1,"to":"cse-in","fr":"CDev","rqi":"1","ty":2,"pc":{"m2m:ae":{"api":"N1","rn":"dev","rr":true}}}
 {"op":1,"to":"cse-in/dev","fr":"CDev","rqi":"2","ty":3,"pc":{"m2m:cnt":{"rn":"data","mni":3}}}
@@ -29,9 +30,10 @@ pub(crate) const SESSION: &str =
 {"op":1,"to":"cse-in/dev/more","fr":"CDev","rqi":"13","ty":23,"pc":{"m2m:sub":{"rn":"sent","nu":["http://127.0.0.1:1/"],"enc":{"net":[3]}}}}
 {"op":1,"to":"cse-in/dev","fr":"CDev","rqi":"14","ty":9,"pc":{"m2m:grp":{"rn":"g","mnm":3,"mid":["cse-in/dev/data","cse-in/dev/more"]}}}
 {"op":1,"to":"cse-in/dev/g/fopt","fr":"CDev","rqi":"15","ty":4,"pc":{"m2m:cin":{"con":"3"}}}
-take
+next
+sent 2
 {"op":2,"to":"cse-in/dev/q/pcu","fr":"CDev","rqi":"16"}
-{"op":1,"to":"cse-in/dev","fr":"CDev","rqi":"17","ty":3,"pc":{"m2m:cnt":{"rn":"brief","et":"19700101T000345"}}}
+{"op":1,"to":"cse-in/dev","fr":"CDev","rqi":"17","ty":3,"pc":{"m2m:cnt":{"rn":"brief","et":"19700101T000346"}}}
 {"op":1,"to":"cse-in/dev/data","fr":"CDev","rqi":"18","ty":4,"pc":{"m2m:cin":{"con":"4"}}}
 {"op":1,"to":"cse-in/dev/data","fr":"CDev","rqi":"19","ty":4,"pc":{"m2m:cin":{"con":"5"}}}
 {"op":3,"to":"cse-in/dev/data","fr":"CDev","rqi":"20","pc":{"m2m:cnt":{"lbl":["b"]}}}
@@ -42,9 +44,11 @@ take
 {"op":2,"to":"cse-in/dev/q/pcu","fr":"CDev","rqi":"25"}
 {"op":1,"to":"cse-in/dev/more","fr":"CDev","rqi":"26","ty":4,"pc":{"m2m:cin":{"con":"7"}}}
 {"op":1,"to":"cse-in/dev/more","fr":"CDev","rqi":"27","ty":4,"pc":{"m2m:cin":{"con":"8"}}}
-take
-take
-take
+next
+sent 7
+next
+sent 8
+next
 {"op":1,"to":"cse-in/dev","fr":"CDev","rqi":"28","ty":1,"pc":{"m2m:acp":{"rn":"p","pv":{"acr":[{"acor":["COther"],"acop":2}]},"pvs":{"acr":[{"acor":["CDev"],"acop":63}]}}}}
 {"op":3,"to":"cse-in/dev/more","fr":"CDev","rqi":"29","pc":{"m2m:cnt":{"acpi":["cse-in/dev/p"]}}}
 {"op":2,"to":"cse-in/dev/more/la","fr":"COther","rqi":"30"}
@@ -63,7 +67,8 @@ take
 {"op":3,"to":"cse-in/dev/data","fr":"CDev","rqi":"43","pc":{"m2m:cnt":{"lbl":null}}}
 {"op":2,"to":"cse-in/dev/none","fr":"CDev","rqi":"44"}
 {"op":4,"to":"cse-in/dev/more","fr":"CDev","rqi":"45"}
-take
+next
+sent 9
 {"op":1,"to":"cse-in","fr":"COther","rqi":"46","ty":2,"pc":{"m2m:ae":{"api":"N2","rn":"other","rr":true}}}
 {"op":1,"to":"cse-in/other","fr":"COther","rqi":"47","ty":3,"pc":{"m2m:cnt":{"rn":"own"}}}
 {"op":3,"to":"cse-in/dev","fr":"COther","rqi":"48","pc":{"m2m:ae":{"lbl":["c"]}}}
@@ -74,15 +79,39 @@ take
 pub(crate) const OPENED: u64 = 200;
 
 /// The moment of the last event.
-pub(crate) const LAST: u64 = 255;
+pub(crate) const LAST: u64 = 259;
 
-/// The event of a line.
-pub(crate) fn event_of(rt: &(impl Abort + AllocGlobal), line: &str) -> Event {
-    if line == "take" {
-        return Event::Take;
-    }
+/// The moments at which the sender looks for an item, and says that it is sent; and its number.
+pub(crate) const SENT: [(u64, u64, u64); 4] = [
+    (216, 217, 2),
+    (230, 231, 7),
+    (232, 233, 8),
+    (253, 254, 9),
+];
+
+fn request_of(rt: &(impl Abort + AllocGlobal), line: &str) -> Event {
     let value = read(rt.alloc(), line.as_bytes()).expect(rt, "a value");
     Event::Ask(request_from(rt.alloc(), value).expect(rt, "a request"))
+}
+
+/// The event of a line.
+pub(crate) fn event_of(rt: &(impl Abort + AllocGlobal), line: &str) -> KeptEvent {
+    if line == "next" {
+        return KeptEvent::Next;
+    }
+    match line.strip_prefix("sent ") {
+        Some(number) => KeptEvent::Sent(number.parse::<u64>().expect(rt, "a number")),
+        None => KeptEvent::OfMachine(request_of(rt, line)),
+    }
+}
+
+/// What the machine is asked for the event of a line.
+fn machine_event(rt: &(impl Abort + AllocGlobal), line: &str) -> Event {
+    match event_of(rt, line) {
+        KeptEvent::OfMachine(event) => event,
+        KeptEvent::Next => Event::Tick,
+        KeptEvent::Sent(_) => Event::Take,
+    }
 }
 
 pub(crate) fn home(rt: &(impl Abort + AllocGlobal)) -> Home {
@@ -101,7 +130,7 @@ pub(crate) fn made_by(rt: &(impl Abort + AllocGlobal), last: u64) -> Entity<Inde
     for line in SESSION.lines() {
         moment = moment.saturating_add(1);
         if moment <= last {
-            let _outcome = step(rt.alloc(), &mut entity, moment, &event_of(rt, line));
+            let _outcome = step(rt.alloc(), &mut entity, moment, &machine_event(rt, line));
         }
     }
     entity

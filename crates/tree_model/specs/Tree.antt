@@ -212,7 +212,8 @@ recounted left r = record r { attrs = with_value Exc (number (pos left)) r.attrs
 
 -- the resource of a number is so, where it is there
 abbrev pub recounted_at : ℕ → ℕ → List ResourceData → List ResourceData
-recounted_at n left nodes = option_map_or (λ r. replaced (recounted left r) nodes) (at n nodes) nodes
+recounted_at n left nodes =
+    option_map_or (λ r. replaced (recounted left r) nodes) (at n nodes) nodes
 
 -- The resource is there, and counts how many notifications are left.
 abbrev pub has_counter : ℕ → List ResourceData → Bool

@@ -1,5 +1,6 @@
 //! The children of a resource, one by one.
-ghost use Rattle.std.specs.Prelude.{◌≡◌, ◌+◌, ◌^◌, ◌<◌, IfSome, IsTrue, Some, option_map, slice_get};
+ghost use Rattle.std.specs.Prelude.{◌≡◌, ◌+◌, ◌^◌, ◌<◌, IfSome, IsTrue, Some, option_map};
+ghost use Rattle.std.specs.Prelude.{slice_get};
 ghost use Rattle.tree_model.specs.Tree.{at, children_of, instances_of, is_tree, subs_of};
 
 use crate::tree::Tree;

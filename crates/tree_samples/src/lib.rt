@@ -4,6 +4,8 @@
 //!
 //! ```text
 //! let tree = tree_of(alloc, "1 cb cse-in 0 - 100 100 1000000 {}")?;
+//! let value = parsed(alloc, "{\"con\": 21}")?;
+//! spelled(alloc, &value)? // {"con":21}
 //! ```
 #![tactic(auto)]
 

@@ -98,84 +98,9 @@ where
     unreachable!()
 }
 
-/// Has all workers of a door work, each in a thread of its own where one can be made.
-fn work_all<R, O, D, B, A, V, J>(
-    rt: &R,
-    desk: &TurnDesk<O, R>,
-    gate: &Mutex<Gate<D, J>>,
-    service: &V,
-    jobs: &mut Vec<Job<O, B, A>>,
-)
-where
-    R: Wait + Threads + Sync,
-    O: Object + Send,
-    O::Event: Send,
-    O::Outcome: Send,
-    D: Door + Send,
-    A: Drop + Send,
-    V: Service<TurnDesk<O, R>, D::Conn, B, A> + Sync,
-    J: Entrance + Send + Sync,
-    B: Send + Drop,
-    requires { AreSeated O.step desk.now.table.shared.table_id jobs.old.items }
-    ensures seats { AreSeated O.step desk.now.table.shared.table_id jobs.new.items }
-    ensures closed { All IsClosedAt jobs.new.items }
-    ensures worked { HaveWorked V.attends jobs.old.items jobs.new.items }
-{
-    let threads = jobs.len().max(1);
-    for_each_mut(
-        rt,
-        jobs,
-        threads,
-        &|_place: usize, job: &mut Job<O, B, A>|
-            requires { IsSeated O.step desk.now.table.shared.table_id job.old.seat }
-            ensures { IsSeated O.step desk.entry.now.table.shared.table_id job.new.seat
-                × IsClosedAt job.new × HasWorked V.attends job.old job.new }
-        { work(rt, desk, gate, service, job) },
-    );
-}
-
-/// Does rounds of an errand, until its signal is given no more. It waits between them until the
-/// signal is given, and for a tenth of a second at most.
-fn run_beside<R, O, B, A, N>(rt: &R, desk: &TurnDesk<O, R>, errand: &N, job: &mut Job<O, B, A>)
-where
-    R: Wait,
-    O: Object,
-    N: Errand<TurnDesk<O, R>, B>,
-    requires { IsSeated O.step desk.now.table.shared.table_id job.old.seat }
-    ensures seat { IsSeated O.step desk.now.table.shared.table_id job.new.seat }
-    ensures rounds { HasMadeRounds N.does job.old job.new }
-{
-    for _ in rt.forever() {
-        errand.run(desk, &mut job.seat, &mut job.bench);
-        if !errand.signal().wait(rt) {
-            return;
-        }
-    }
-    unreachable!()
-}
-
-/// Has an errand do rounds at its job, until its signal is given no more.
-fn with_rounds<R, O, B, A, N>(
-    rt: &R,
-    desk: &TurnDesk<O, R>,
-    errand: &N,
-    mut beside: Job<O, B, A>,
-) -> Job<O, B, A>
-where
-    R: Wait,
-    O: Object,
-    N: Errand<TurnDesk<O, R>, B>,
-    requires { IsSeatedAt O.step desk.now.table.shared.table_id beside }
-    ensures seat { IsSeatedAt O.step desk.now.table.shared.table_id result }
-    ensures rounds { HasMadeRounds N.does beside result }
-{
-    run_beside(rt, desk, errand, &mut beside);
-    beside
-}
-
-/// Has all workers of a door work at their jobs, and says then that the errand's signal is given no
-/// more.
-fn with_work<R, O, D, B, A, V, N, J>(
+/// Has all workers of a door work at their jobs, each in a thread of its own where one can be made,
+/// and says then that the errand's signal is given no more.
+fn work_all<R, O, D, B, A, V, N, J>(
     rt: &R,
     desk: &TurnDesk<O, R>,
     gate: &Mutex<Gate<D, J>>,
@@ -199,59 +124,50 @@ where
     ensures closed { All IsClosedAt result.items }
     ensures worked { HaveWorked V.attends jobs.items result.items }
 {
-    work_all(rt, desk, gate, service, &mut jobs);
+    let threads = jobs.len().max(1);
+    for_each_mut(
+        rt,
+        &mut jobs,
+        threads,
+        &|_place: usize, job: &mut Job<O, B, A>|
+            requires { IsSeated O.step desk.now.table.shared.table_id job.old.seat }
+            ensures { IsSeated O.step desk.entry.now.table.shared.table_id job.new.seat
+                × IsClosedAt job.new × HasWorked V.attends job.old job.new }
+        { work(rt, desk, gate, service, job) },
+    );
     errand.signal().end();
     jobs
 }
 
-/// Has all workers of a door work, and an errand do rounds beside them, at a job of its own, until
-/// they have ended. Where no thread can be made for the errand, it comes behind them.
-fn run_all<R, O, D, B, A, V, N, J>(
+/// Has an errand do rounds at its job, until its signal is given no more. It waits between them
+/// until the signal is given, and for a tenth of a second at most.
+fn run_beside<R, O, B, A, N>(
     rt: &R,
     desk: &TurnDesk<O, R>,
-    gate: &Mutex<Gate<D, J>>,
-    service: &V,
     errand: &N,
-    jobs: Vec<Job<O, B, A>>,
-    beside: Job<O, B, A>,
-) -> (Vec<Job<O, B, A>>, Job<O, B, A>)
+    mut beside: Job<O, B, A>,
+) -> Job<O, B, A>
 where
-    R: Wait + Threads + Sync,
-    O: Object + Send,
-    O::Event: Send,
-    O::Outcome: Send,
-    D: Door + Send,
-    A: Drop + Send,
-    V: Service<TurnDesk<O, R>, D::Conn, B, A> + Sync,
-    N: Errand<TurnDesk<O, R>, B> + Sync,
-    J: Entrance + Send + Sync,
-    B: Send + Drop,
-    requires jobs { AreSeated O.step desk.now.table.shared.table_id jobs.items }
-    requires beside { IsSeatedAt O.step desk.now.table.shared.table_id beside }
-    ensures seats { AreSeated O.step desk.now.table.shared.table_id result.0.items }
-    ensures closed { All IsClosedAt result.0.items }
-    ensures worked { HaveWorked V.attends jobs.items result.0.items }
-    ensures beside { IsSeatedAt O.step desk.now.table.shared.table_id result.1 }
-    ensures rounds { HasMadeRounds N.does beside result.1 }
+    R: Wait,
+    O: Object,
+    N: Errand<TurnDesk<O, R>, B>,
+    requires { IsSeatedAt O.step desk.now.table.shared.table_id beside }
+    ensures seat { IsSeatedAt O.step desk.now.table.shared.table_id result }
+    ensures rounds { HasMadeRounds N.does beside result }
 {
-    let rounds = move || -> Job<O, B, A>
-        requires { IsSeatedAt O.step desk.now.table.shared.table_id beside }
-        ensures { IsSeatedAt O.step desk.entry.now.table.shared.table_id result
-            × HasMadeRounds N.does beside result }
-    { with_rounds(rt, desk, errand, beside) };
-    let work = move || -> Vec<Job<O, B, A>>
-        requires { IsSync R.row × AreSeated O.step desk.now.table.shared.table_id jobs.items }
-        ensures { AreSeated O.step desk.entry.now.table.shared.table_id result.items
-            × All IsClosedAt result.items × HaveWorked V.attends jobs.items result.items }
-    { with_work(rt, desk, gate, service, errand, jobs) };
-    let (beside, jobs) = join(rt, rounds, work);
-    (jobs, beside)
+    for _ in rt.forever() {
+        errand.run(desk, &mut beside.seat, &mut beside.bench);
+        if !errand.signal().wait(rt) {
+            return beside;
+        }
+    }
+    unreachable!()
 }
 
 /// Serves the connections of a door whose entrance is `J`: by workers at these jobs, with an errand
-/// beside them at a job of its own. What is left when they have ended is served at the bench of that
-/// one, and then the errand has one round more, at the first bench. The seats are joined into this
-/// one.
+/// that has rounds beside them, at a job of its own, until they have ended. Where no thread can be
+/// made for the errand, it comes behind them. What is left then is served at the bench of that job,
+/// and the errand has one round more, at the first bench. The seats are joined into this one.
 fn serve_jobs<R, O, D, B, A, V, N, J>(
     rt: &R,
     desk: &TurnDesk<O, R>,
@@ -294,7 +210,18 @@ where
     ensures cause { IfErr result (λ e. e.2 ≡ ServeFault.DoorFault) }
 {
     let gate: Mutex<Gate<D, J>> = Mutex::new(Gate::new(door, accept));
-    let (jobs, beside) = run_all(rt, desk, &gate, service, errand, jobs, beside);
+    let shared = &gate;
+    let rounds = move || -> Job<O, B, A>
+        requires { IsSeatedAt O.step desk.now.table.shared.table_id beside }
+        ensures { IsSeatedAt O.step desk.entry.now.table.shared.table_id result
+            × HasMadeRounds N.does beside result }
+    { run_beside(rt, desk, errand, beside) };
+    let work = move || -> Vec<Job<O, B, A>>
+        requires { IsSync R.row × AreSeated O.step desk.now.table.shared.table_id jobs.items }
+        ensures { AreSeated O.step desk.entry.now.table.shared.table_id result.items
+            × All IsClosedAt result.items × HaveWorked V.attends jobs.items result.items }
+    { work_all(rt, desk, shared, service, errand, jobs) };
+    let (beside, jobs) = join(rt, rounds, work);
     let (mut seat, mut bench) = all_joined(desk, seat, jobs, beside);
     let mut gate = gate.into_inner();
     serve_rest(rt, desk, &mut gate, service, &mut seat, &mut bench);

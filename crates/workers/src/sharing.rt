@@ -95,7 +95,8 @@ fn joined_seat<O: Object, R, B: Drop, A>(
     ensures own { (known_to result).own
         ≡ (known_to seat).own ++ all_own (known_to_all jobs.items) }
     ensures parts { (others : List (View O O.Event O.Outcome))
-        → PassesOn (known_to seat ∷ (known_to_all jobs.items ++ others)) (known_to result ∷ others) }
+        → PassesOn (known_to seat ∷ (known_to_all jobs.items ++ others))
+        (known_to result ∷ others) }
 {
     let mut all = seat;
     for job in jobs {

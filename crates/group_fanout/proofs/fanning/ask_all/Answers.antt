@@ -11,7 +11,7 @@ returns-in-Err-clause-cut g c =
     subst (λ (xs : List (List ℕ)). IsAskedSoFar c.args.entity.now c.args.request.now c.args.addresses.items xs c.loop-address.done c.loop-address.entity c.loop-address.replies.items)
     c.in-Some.ensures.steps.0 c.loop-address.invariant.so in
     asked_cut_more c.args.entity.now c.args.request.now c.args.addresses.items (into_iter_items c.next.new.self) c.loop-address.done c.loop-address.entity c.ask_member.new.entity
-    c.loop-address.replies.items c.in-Some.address c.in-Ok.reply so c.in-Ok.ensures.reply c.in-Ok.ensures.after
+    c.loop-address.replies.items c.in-Some.address c.in-Ok.reply so c.in-Ok.ensures.gives.reply c.in-Ok.ensures.gives.after
 
 -- one more is done, and told of
 pub loop-address-preserved : goal.loop-address-preserved
@@ -22,7 +22,7 @@ loop-address-preserved g c =
     c.in-Some.ensures.steps.0 c.loop-address.invariant.so in
     let more =
     asked_more c.args.entity.now c.args.request.now c.args.addresses.items rest c.loop-address.done c.loop-address.entity c.ask_member.new.entity
-    c.loop-address.replies.items c.add_reply.new.replies.items c.in-Some.address c.in-Ok.reply so c.in-Ok.ensures.reply c.in-Ok.ensures.after c.in_default-add_reply.ensures in
+    c.loop-address.replies.items c.add_reply.new.replies.items c.in-Some.address c.in-Ok.reply so c.in-Ok.ensures.gives.reply c.in-Ok.ensures.gives.after c.in_default-add_reply.ensures in
     let texts = subst (AllByRecursion IsUtf8) c.in-Some.ensures.steps.0 c.loop-address.invariant.texts in
     record {
       so = more;

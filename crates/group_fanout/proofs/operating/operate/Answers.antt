@@ -1,81 +1,37 @@
-use Rattle.std.proofs.Common.{◌≡◌, IfOk, OnOk, sym, ap, subst, ◌∙◌}
+use Rattle.std.proofs.Common.{◌≡◌, sym, ap, subst, ◌∙◌}
 use Rattle.primitive_json.specs.declared.request.RequestParts.{RequestParts}
-use Rattle.entity_model.specs.Places.{Effect}
+use Rattle.entity_model.specs.Places.{ComesTo}
 use Rattle.group_fanout.proofs.OperationLemmas.{create_to, delete_to, notify_to, update_to}
 use Rattle.group_fanout.proofs.operating.operate.Goals as goal
 
 -- a Create gives what it is to give
-pub returns-in-Create-clause-reply : goal.returns-in-Create-clause-reply
-returns-in-Create-clause-reply g c =
-    let e = c.args.entity.now in
-    let request = c.args.request.now in
+pub returns-in-Create-clause-gives : goal.returns-in-Create-clause-gives
+returns-in-Create-clause-gives g c =
     let is =
-    create_to e request c.args.originator.now c.args.number c.requires.claimed
+    create_to c.args.entity.now c.args.request.now c.args.originator.now c.args.number c.requires.claimed
     (ap (λ (r : RequestParts). r.op) (sym c.parts.ensures.same) ∙ c.in-Create.is) in
-    subst (λ (x : Effect). IfOk c.create.result (λ r. r ≡ x.reply)) (sym is) c.create.ensures.reply
-
-pub returns-in-Create-clause-after : goal.returns-in-Create-clause-after
-returns-in-Create-clause-after g c =
-    let e = c.args.entity.now in
-    let request = c.args.request.now in
-    let is =
-    create_to e request c.args.originator.now c.args.number c.requires.claimed
-    (ap (λ (r : RequestParts). r.op) (sym c.parts.ensures.same) ∙ c.in-Create.is) in
-    subst (λ (x : Effect). OnOk c.create.result (c.create.new.entity ≡ x.after)) (sym is) c.create.ensures.after
+    subst (ComesTo c.create.result c.create.new.entity) (sym is) c.create.ensures.gives
 
 -- an Update gives what it is to give
-pub returns-in-Update-clause-reply : goal.returns-in-Update-clause-reply
-returns-in-Update-clause-reply g c =
-    let e = c.args.entity.now in
-    let request = c.args.request.now in
+pub returns-in-Update-clause-gives : goal.returns-in-Update-clause-gives
+returns-in-Update-clause-gives g c =
     let is =
-    update_to e request c.args.originator.now c.args.number c.requires.claimed
+    update_to c.args.entity.now c.args.request.now c.args.originator.now c.args.number c.requires.claimed
     (ap (λ (r : RequestParts). r.op) (sym c.parts.ensures.same) ∙ c.in-Update.is) in
-    subst (λ (x : Effect). IfOk c.update.result (λ r. r ≡ x.reply)) (sym is) c.update.ensures.reply
-
-pub returns-in-Update-clause-after : goal.returns-in-Update-clause-after
-returns-in-Update-clause-after g c =
-    let e = c.args.entity.now in
-    let request = c.args.request.now in
-    let is =
-    update_to e request c.args.originator.now c.args.number c.requires.claimed
-    (ap (λ (r : RequestParts). r.op) (sym c.parts.ensures.same) ∙ c.in-Update.is) in
-    subst (λ (x : Effect). OnOk c.update.result (c.update.new.entity ≡ x.after)) (sym is) c.update.ensures.after
+    subst (ComesTo c.update.result c.update.new.entity) (sym is) c.update.ensures.gives
 
 -- a Delete gives what it is to give
-pub returns-in-Delete-clause-reply : goal.returns-in-Delete-clause-reply
-returns-in-Delete-clause-reply g c =
-    let e = c.args.entity.now in
-    let request = c.args.request.now in
+pub returns-in-Delete-clause-gives : goal.returns-in-Delete-clause-gives
+returns-in-Delete-clause-gives g c =
     let is =
-    delete_to e request c.args.originator.now c.args.number c.requires.claimed
+    delete_to c.args.entity.now c.args.request.now c.args.originator.now c.args.number c.requires.claimed
     (ap (λ (r : RequestParts). r.op) (sym c.parts.ensures.same) ∙ c.in-Delete.is) in
-    subst (λ (x : Effect). IfOk c.delete.result (λ r. r ≡ x.reply)) (sym is) c.delete.ensures.reply
-
-pub returns-in-Delete-clause-after : goal.returns-in-Delete-clause-after
-returns-in-Delete-clause-after g c =
-    let e = c.args.entity.now in
-    let request = c.args.request.now in
-    let is =
-    delete_to e request c.args.originator.now c.args.number c.requires.claimed
-    (ap (λ (r : RequestParts). r.op) (sym c.parts.ensures.same) ∙ c.in-Delete.is) in
-    subst (λ (x : Effect). OnOk c.delete.result (c.delete.new.entity ≡ x.after)) (sym is) c.delete.ensures.after
+    subst (ComesTo c.delete.result c.delete.new.entity) (sym is) c.delete.ensures.gives
 
 -- a Notify gives what it is to give
-pub returns-in-Notify-clause-reply : goal.returns-in-Notify-clause-reply
-returns-in-Notify-clause-reply g c =
-    let e = c.args.entity.now in
-    let request = c.args.request.now in
+pub returns-in-Notify-clause-gives : goal.returns-in-Notify-clause-gives
+returns-in-Notify-clause-gives g c =
     let is =
-    notify_to e request c.args.originator.now c.args.number c.requires.claimed
+    notify_to c.args.entity.now c.args.request.now c.args.originator.now c.args.number c.requires.claimed
     (ap (λ (r : RequestParts). r.op) (sym c.parts.ensures.same) ∙ c.in-Notify.is) in
-    subst (λ (x : Effect). IfOk c.notify.result (λ r. r ≡ x.reply)) (sym is) c.notify.ensures.reply
-
-pub returns-in-Notify-clause-after : goal.returns-in-Notify-clause-after
-returns-in-Notify-clause-after g c =
-    let e = c.args.entity.now in
-    let request = c.args.request.now in
-    let is =
-    notify_to e request c.args.originator.now c.args.number c.requires.claimed
-    (ap (λ (r : RequestParts). r.op) (sym c.parts.ensures.same) ∙ c.in-Notify.is) in
-    subst (λ (x : Effect). OnOk c.notify.result (c.notify.new.entity ≡ x.after)) (sym is) c.notify.ensures.after
+    subst (ComesTo c.notify.result c.notify.new.entity) (sym is) c.notify.ensures.gives

@@ -2,55 +2,31 @@ use Rattle.std.proofs.Common.{◌≤◌, length, take, refl, sym, ap, ◌∙◌,
 use Rattle.journal_file.specs.Gates.{KeepsText, at_rest}
 use Rattle.journal_opening.specs.Opening.{IsRefused, OpensAs}
 use Rattle.journal_opening.specs.declared.fault.OpeningFault.TheVariants.{Failed}
-use Rattle.journal_opening.proofs.CountLemmas.{counts_all, counts_last, counts_none, counts_on, ok_no_err, passed_is, passed_match, passed_up}
+use Rattle.journal_opening.proofs.CountLemmas.{counts_all, counts_last, counts_on, ok_no_err, passed_is, passed_match, passed_up}
 use Rattle.journal_opening.proofs.FileLemmas.{closes_keeps, keeps_opened, opened_refused, stays_keeps}
-use Rattle.journal_opening.proofs.PlayLemmas.{refused_by_machine}
 use Rattle.journal_opening.proofs.ReadingLemmas.{journal_opens}
 use Rattle.journal_opening.proofs.opening.play_back.Goals as goal
 
--- ---- the file couldn't be read
-
-pub returns-in_err-bytes-clause-refused : goal.returns-in_err-bytes-clause-refused
-returns-in_err-bytes-clause-refused g c = λ told.
-    passed_up c.from_residual.result c.in_err-bytes.field-0.0 _ c.from_residual.ensures.1
-    (refused_by_machine c.args.home (g.F.KeptFile.seen c.args.file.now) c.in_err-bytes.field-0.0 c.in_err-bytes.ensures.fault)
-
-pub returns-in_err-bytes-clause-journal : goal.returns-in_err-bytes-clause-journal
-returns-in_err-bytes-clause-journal g c = λ told base deeds text journal keeps.
-    passed_match c.from_residual.result c.in_err-bytes.field-0.0 _ _ c.from_residual.ensures.1 c.in_err-bytes.ensures.fault
-
-pub returns-in_err-bytes-clause-stays : goal.returns-in_err-bytes-clause-stays
-returns-in_err-bytes-clause-stays g c = λ told.
-    passed_up c.from_residual.result c.in_err-bytes.field-0.0 _ c.from_residual.ensures.1 (λ other. c.read_bytes.ensures.stays told)
-
-pub returns-in_err-bytes-clause-any_moment : goal.returns-in_err-bytes-clause-any_moment
-returns-in_err-bytes-clause-any_moment g c = λ told base deeds text journal keeps.
-    let K = g.F.KeptFile in
-    stays_keeps K.seen K.may_leave K.moment K.left_since c.args.file.now c.read_bytes.new.file text (c.read_bytes.ensures.stays told) keeps
-
--- ---- its bytes are refused
+-- ---- its journal isn't played
 
 pub returns-in_err-played-clause-refused : goal.returns-in_err-played-clause-refused
 returns-in_err-played-clause-refused g c = λ told.
-    passed_up c.from_residual-in_err-played.result c.in_err-played.field-0.0 _ c.from_residual-in_err-played.ensures.1
-    (subst (λ b. IsRefused c.args.home b c.in_err-played.field-0.0) (c.deref.ensures.value ∙ c.in_ok-bytes.ensures.bytes told) c.in_err-played.ensures.refused)
+    passed_up c.from_residual.result c.in_err-played.field-0.0 _ c.from_residual.ensures.1 (c.in_err-played.ensures.refused told)
 
 pub returns-in_err-played-clause-journal : goal.returns-in_err-played-clause-journal
 returns-in_err-played-clause-journal g c = λ told base deeds text journal keeps.
     let K = g.F.KeptFile in
-    let refused = subst (λ b. IsRefused c.args.home b c.in_err-played.field-0.0) (c.deref.ensures.value ∙ c.in_ok-bytes.ensures.bytes told) c.in_err-played.ensures.refused in
-    passed_match c.from_residual-in_err-played.result c.in_err-played.field-0.0 _ _ c.from_residual-in_err-played.ensures.1
-    ((journal_opens c.args.home base deeds text (K.seen c.args.file.now) journal keeps).refuses c.in_err-played.field-0.0 refused)
+    passed_match c.from_residual.result c.in_err-played.field-0.0 _ _ c.from_residual.ensures.1
+    ((journal_opens c.args.home base deeds text (K.seen c.args.file.now) journal keeps).refuses c.in_err-played.field-0.0 (c.in_err-played.ensures.refused told))
 
 pub returns-in_err-played-clause-stays : goal.returns-in_err-played-clause-stays
 returns-in_err-played-clause-stays g c = λ told.
-    passed_up c.from_residual-in_err-played.result c.in_err-played.field-0.0 _ c.from_residual-in_err-played.ensures.1
-    (λ other. c.read_bytes.ensures.stays told)
+    passed_up c.from_residual.result c.in_err-played.field-0.0 _ c.from_residual.ensures.1 (λ other. c.play_file.ensures.stays told)
 
 pub returns-in_err-played-clause-any_moment : goal.returns-in_err-played-clause-any_moment
 returns-in_err-played-clause-any_moment g c = λ told base deeds text journal keeps.
     let K = g.F.KeptFile in
-    stays_keeps K.seen K.may_leave K.moment K.left_since c.args.file.now c.read_bytes.new.file text (c.read_bytes.ensures.stays told) keeps
+    stays_keeps K.seen K.may_leave K.moment K.left_since c.args.file.now c.play_file.new.file text (c.play_file.ensures.stays told) keeps
 
 -- ---- it could not be made ready
 
@@ -68,97 +44,80 @@ returns-in_err-close_behind-clause-stays g c = λ told.
 
 -- ---- the count of faults
 
-pub returns-in_err-bytes-clause-faults : goal.returns-in_err-bytes-clause-faults
-returns-in_err-bytes-clause-faults g c =
-    counts_on c.read_bytes.result c.from_residual.result _ c.in_err-bytes.field-0.0 _ _ c.in_err-bytes.was
-    (passed_is c.from_residual.result c.in_err-bytes.field-0.0 c.from_residual.ensures.1) c.read_bytes.ensures.faults
-
 pub returns-in_err-played-clause-faults : goal.returns-in_err-played-clause-faults
 returns-in_err-played-clause-faults g c =
-    let is = passed_is c.from_residual-in_err-played.result c.in_err-played.field-0.0 c.from_residual-in_err-played.ensures.1 in
-    counts_none c.read_bytes.result c.from_residual-in_err-played.result _ _ _ (ok_no_err _ _ _ c.in_ok-bytes.was)
-    (λ failed. c.play_bytes.ensures.other (c.in_err-played.was ∙ sym is ∙ failed)) c.read_bytes.ensures.faults
+    counts_on c.play_file.result c.from_residual.result _ c.in_err-played.field-0.0 _ _ c.in_err-played.was
+    (passed_is c.from_residual.result c.in_err-played.field-0.0 c.from_residual.ensures.1) c.play_file.ensures.faults
 
 pub returns-in_err-close_behind-clause-faults : goal.returns-in_err-close_behind-clause-faults
 returns-in_err-close_behind-clause-faults g c =
-    counts_last c.read_bytes.result c.close_behind.result c.from_residual-in_err-close_behind.result _ c.in_err-close_behind.field-0.0 _ _ _
-    (ok_no_err _ _ _ c.in_ok-bytes.was) c.in_err-close_behind.was
-    (passed_is c.from_residual-in_err-close_behind.result _ c.from_residual-in_err-close_behind.ensures.1) c.read_bytes.ensures.faults c.close_behind.ensures.faults
+    counts_last c.play_file.result c.close_behind.result c.from_residual-in_err-close_behind.result _ c.in_err-close_behind.field-0.0 _ _ _
+    (ok_no_err _ _ _ c.in_ok-played.was) c.in_err-close_behind.was
+    (passed_is c.from_residual-in_err-close_behind.result _ c.from_residual-in_err-close_behind.ensures.1) c.play_file.ensures.faults c.close_behind.ensures.faults
 
 pub returns-clause-faults : goal.returns-clause-faults
 returns-clause-faults g c =
-    counts_all c.read_bytes.result c.close_behind.result _ _ _ _ _ _ (ok_no_err _ _ _ c.in_ok-bytes.was) c.in_ok-close_behind.was
-    (ok_no_err _ _ _ refl) c.read_bytes.ensures.faults c.close_behind.ensures.faults
+    counts_all c.play_file.result c.close_behind.result _ _ _ _ _ _ (ok_no_err _ _ _ c.in_ok-played.was) c.in_ok-close_behind.was
+    (ok_no_err _ _ _ refl) c.play_file.ensures.faults c.close_behind.ensures.faults
 
 -- ---- it is made ready
 
 pub close_behind-requires-clause-within : goal.close_behind-requires-clause-within
 close_behind-requires-clause-within g c = λ told.
-    let K = g.F.KeptFile in
     let p = c.in_ok-played.played in
-    let opens = subst (λ b. OpensAs c.args.home b p.len p.entity) (c.deref.ensures.value ∙ c.in_ok-bytes.ensures.bytes told) c.in_ok-played.ensures.opens in
-    subst (λ b. p.len ≤ length b) (sym (c.read_bytes.ensures.stays told).same) opens.within
+    subst (λ b. p.len ≤ length b) (sym (c.play_file.ensures.stays told).same) (c.in_ok-played.ensures.opens told).within
 
 pub close_behind-requires-clause-text : goal.close_behind-requires-clause-text
 close_behind-requires-clause-text g c = λ told.
-    let K = g.F.KeptFile in
     let p = c.in_ok-played.played in
-    let opens = subst (λ b. OpensAs c.args.home b p.len p.entity) (c.deref.ensures.value ∙ c.in_ok-bytes.ensures.bytes told) c.in_ok-played.ensures.opens in
-    subst (λ b. KeepsText (take p.len b) b) (sym (c.read_bytes.ensures.stays told).same)
-    (keeps_opened c.args.home (K.seen c.args.file.now) p.len p.entity opens)
+    subst (λ b. KeepsText (take p.len b) b) (sym (c.play_file.ensures.stays told).same)
+    (keeps_opened c.args.home (g.F.KeptFile.seen c.args.file.now) p.len p.entity (c.in_ok-played.ensures.opens told))
 
 pub close_behind-requires-clause-kept : goal.close_behind-requires-clause-kept
-close_behind-requires-clause-kept g c = λ told. (c.read_bytes.ensures.stays told).kept
+close_behind-requires-clause-kept g c = λ told. (c.play_file.ensures.stays told).kept
 
 pub returns-in_err-close_behind-clause-any_moment : goal.returns-in_err-close_behind-clause-any_moment
 returns-in_err-close_behind-clause-any_moment g c = λ told base deeds text journal keeps.
     let K = g.F.KeptFile in
     let p = c.in_ok-played.played in
-    let opens = subst (λ b. OpensAs c.args.home b p.len p.entity) (c.deref.ensures.value ∙ c.in_ok-bytes.ensures.bytes told) c.in_ok-played.ensures.opens in
-    closes_keeps K.seen K.may_leave K.moment K.left_since c.args.file.now c.read_bytes.new.file c.close_behind.new.file
-    c.args.home base deeds text p.len p.entity (c.read_bytes.ensures.stays told) opens journal keeps (c.close_behind.ensures.any_moment told)
+    closes_keeps K.seen K.may_leave K.moment K.left_since c.args.file.now c.play_file.new.file c.close_behind.new.file
+    c.args.home base deeds text p.len p.entity (c.play_file.ensures.stays told) (c.in_ok-played.ensures.opens told) journal keeps (c.close_behind.ensures.any_moment told)
 
 pub returns-clause-any_moment : goal.returns-clause-any_moment
 returns-clause-any_moment g c = λ told base deeds text journal keeps.
     let K = g.F.KeptFile in
     let p = c.in_ok-played.played in
-    let opens = subst (λ b. OpensAs c.args.home b p.len p.entity) (c.deref.ensures.value ∙ c.in_ok-bytes.ensures.bytes told) c.in_ok-played.ensures.opens in
-    closes_keeps K.seen K.may_leave K.moment K.left_since c.args.file.now c.read_bytes.new.file c.close_behind.new.file
-    c.args.home base deeds text p.len p.entity (c.read_bytes.ensures.stays told) opens journal keeps (c.close_behind.ensures.any_moment told)
+    closes_keeps K.seen K.may_leave K.moment K.left_since c.args.file.now c.play_file.new.file c.close_behind.new.file
+    c.args.home base deeds text p.len p.entity (c.play_file.ensures.stays told) (c.in_ok-played.ensures.opens told) journal keeps (c.close_behind.ensures.any_moment told)
 
 pub returns-clause-opens : goal.returns-clause-opens
-returns-clause-opens g c = λ told.
-    let p = c.in_ok-played.played in
-    subst (λ b. OpensAs c.args.home b p.len p.entity) (c.deref.ensures.value ∙ c.in_ok-bytes.ensures.bytes told) c.in_ok-played.ensures.opens
+returns-clause-opens g c = λ told. c.in_ok-played.ensures.opens told
+
+pub returns-clause-front : goal.returns-clause-front
+returns-clause-front g c = λ told. c.in_ok-played.ensures.front told
 
 pub returns-clause-journal : goal.returns-clause-journal
 returns-clause-journal g c = λ told base deeds text journal keeps.
     let K = g.F.KeptFile in
     let p = c.in_ok-played.played in
-    let opens = subst (λ b. OpensAs c.args.home b p.len p.entity) (c.deref.ensures.value ∙ c.in_ok-bytes.ensures.bytes told) c.in_ok-played.ensures.opens in
-    (journal_opens c.args.home base deeds text (K.seen c.args.file.now) journal keeps).opens p.len p.entity opens
+    (journal_opens c.args.home base deeds text (K.seen c.args.file.now) journal keeps).opens p.len p.entity (c.in_ok-played.ensures.opens told)
 
 pub returns-clause-ready : goal.returns-clause-ready
 returns-clause-ready g c = λ told.
     let p = c.in_ok-played.played in
-    c.in_ok-close_behind.ensures.rest told ∙ ap (λ b. at_rest (take p.len b)) (c.read_bytes.ensures.stays told).same
+    c.in_ok-close_behind.ensures.rest told ∙ ap (λ b. at_rest (take p.len b)) (c.play_file.ensures.stays told).same
 
 -- ---- what is no journal of this home
 
-pub returns-in_err-bytes-clause-others : goal.returns-in_err-bytes-clause-others
-returns-in_err-bytes-clause-others g c = λ told fault strange refused. c.read_bytes.ensures.stays told
-
 pub returns-in_err-played-clause-others : goal.returns-in_err-played-clause-others
-returns-in_err-played-clause-others g c = λ told fault strange refused. c.read_bytes.ensures.stays told
+returns-in_err-played-clause-others g c = λ told fault strange refused. c.play_file.ensures.stays told
 
 pub returns-in_err-close_behind-clause-others : goal.returns-in_err-close_behind-clause-others
 returns-in_err-close_behind-clause-others g c = λ told fault strange refused.
     let p = c.in_ok-played.played in
-    let opens = subst (λ b. OpensAs c.args.home b p.len p.entity) (c.deref.ensures.value ∙ c.in_ok-bytes.ensures.bytes told) c.in_ok-played.ensures.opens in
-    absurd (strange (opened_refused c.args.home (g.F.KeptFile.seen c.args.file.now) p.len p.entity fault opens refused))
+    absurd (strange (opened_refused c.args.home (g.F.KeptFile.seen c.args.file.now) p.len p.entity fault (c.in_ok-played.ensures.opens told) refused))
 
 pub returns-clause-others : goal.returns-clause-others
 returns-clause-others g c = λ told fault strange refused.
     let p = c.in_ok-played.played in
-    let opens = subst (λ b. OpensAs c.args.home b p.len p.entity) (c.deref.ensures.value ∙ c.in_ok-bytes.ensures.bytes told) c.in_ok-played.ensures.opens in
-    absurd (strange (opened_refused c.args.home (g.F.KeptFile.seen c.args.file.now) p.len p.entity fault opens refused))
+    absurd (strange (opened_refused c.args.home (g.F.KeptFile.seen c.args.file.now) p.len p.entity fault (c.in_ok-played.ensures.opens told) refused))

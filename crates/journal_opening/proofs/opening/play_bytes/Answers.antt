@@ -6,6 +6,9 @@ pub returns-clause-opens : goal.returns-clause-opens
 returns-clause-opens g c =
     opens_as c.args.home c.args.bytes.now _ c.in_ok-len.len _ c.in_ok-entity.ensures.begun _ c.in_ok-len.ensures.played c.in_ok-len.ensures.shut
 
+pub returns-clause-front : goal.returns-clause-front
+returns-clause-front g c = (_, c.in_ok-entity.ensures.begun)
+
 pub returns-in_err-len-clause-refused : goal.returns-in_err-len-clause-refused
 returns-in_err-len-clause-refused g c =
     passed_up c.from_residual-in_err-len.result c.in_err-len.field-0.0 _ c.from_residual-in_err-len.ensures.1

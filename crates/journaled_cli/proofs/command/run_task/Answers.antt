@@ -3,13 +3,16 @@ use Rattle.journaled_cli.proofs.command.run_task.Goals as goal
 
 -- the entity was opened
 pub returns-in-Ok : goal.returns-in-Ok
-returns-in-Ok g c = inl (c.in-Ok.object, c.in-Ok.ensures.opens, c.do_task.ensures)
+returns-in-Ok g c = inl (c.in-Ok.object, c.in-Ok.ensures.opens, c.do_task-status.ensures, refl)
 
 -- the file was refused
 pub returns-in-Err : goal.returns-in-Err
 returns-in-Err g c = inr (record {
-  fault = c.in-Err.fault;
+  fault = c.in-Err.unopened.fault;
+  left = c.in-Err.unopened.file;
   refused = c.in-Err.ensures.refused;
-  status_is = c.refuse.ensures;
+  back_is = refl;
+  stays = c.in-Err.ensures.stays;
+  status_is = c.refuse-status.ensures;
   same = refl;
 })

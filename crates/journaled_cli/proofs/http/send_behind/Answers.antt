@@ -4,8 +4,8 @@ use Rattle.journaled_cli.proofs.http.send_behind.Goals as goal
 
 pub returns-in-Ok : goal.returns-in-Ok
 returns-in-Ok g c = λ left out. record {
-  result = c.send_alone.result;
-  sends = c.send_alone.ensures;
+  result = c.send_kept_alone.result;
+  sends = c.send_kept_alone.ensures;
   left = refl;
   out = refl;
   status_is = sym (ap (status_behind c.args.whole) c.in-Ok.is);
@@ -13,8 +13,8 @@ returns-in-Ok g c = λ left out. record {
 
 pub returns-in-Err : goal.returns-in-Err
 returns-in-Err g c = λ left out. record {
-  result = c.send_alone.result;
-  sends = c.send_alone.ensures;
+  result = c.send_kept_alone.result;
+  sends = c.send_kept_alone.ensures;
   left = refl;
   out = refl;
   status_is = sym (ap (status_behind c.args.whole) c.in-Err.is);

@@ -1,5 +1,5 @@
 use Rattle.std.proofs.Common.{◌∙◌}
-use Rattle.journaled_entity.proofs.OpenLemmas.{leaves_opened, opens_at, settles}
+use Rattle.journaled_entity.proofs.OpenLemmas.{leaves_opened, opens_at, settles, stays_opened}
 use Rattle.journaled_entity.proofs.opening.open_kept.Goals as goal
 
 -- its journal is ready
@@ -26,3 +26,13 @@ returns-in-Ok-clause-any_moment g c = λ told base deeds text journal keeps.
     let K = g.F.KeptFile in
     leaves_opened K.moment K.left_since text c.args.file c.play_back.new.file c.new-journal.result c.new-object.result
     c.new-journal.ensures.file c.new-object.ensures.journal (c.play_back.ensures.any_moment told base deeds text journal keeps)
+
+pub returns-in-Ok-clause-journal : goal.returns-in-Ok-clause-journal
+returns-in-Ok-clause-journal g c = λ told base deeds text journal keeps.
+    c.new-object.ensures.object ∙ c.new-entity.ensures ∙ (c.in-Ok.ensures.journal told base deeds text journal keeps).1
+
+pub returns-in-Ok-clause-others : goal.returns-in-Ok-clause-others
+returns-in-Ok-clause-others g c = λ told fault other refused.
+    let K = g.F.KeptFile in
+    stays_opened K.seen K.may_leave K.moment K.left_since c.args.file c.play_back.new.file c.new-journal.result c.new-object.result
+    c.new-journal.ensures.file c.new-object.ensures.journal (c.play_back.ensures.others told fault other refused)

@@ -1,46 +1,49 @@
-use Rattle.std.proofs.Common.{◌≡◌, ℕ, List, length, sym, subst, arith}
+use Rattle.std.proofs.Common.{◌≡◌, sym, ap, subst, ◌∙◌}
 use Rattle.std.specs.Prelude.{IfSome, false}
-use Rattle.cse_machine.specs.Step.{Step}
-use Rattle.cse_machine.specs.declared.event.Event.{Event}
-use Rattle.cse_machine.specs.declared.event.Outcome.{Outcome}
-use Rattle.kept_object.specs.Records.{Records}
-use Rattle.journaled_entity.specs.Changes.{differs, may_change}
-use Rattle.journaled_entity.specs.Keeping.{KeepsEntity}
+use Rattle.journal_events.specs.Steps.{KeptEntityStep}
+use Rattle.journal_events.specs.declared.event.KeptEvent.{KeptEvent}
+use Rattle.journal_events.specs.declared.event.KeptOutcome.{KeptOutcome}
+use Rattle.journal_events.specs.declared.event.KeptOutcome.TheVariants as outcomes
+use Rattle.journaled_entity.specs.Changes.{differs, may_change_kept}
 use Rattle.journaled_entity.proofs.KeepLemmas.{on_some}
 use Rattle.journaled_entity.proofs.recording.JournaledRecorder.record.Goals as goal
 
--- it was written down, or has nothing to be written
-pub returns-in-Ok-clause-records : goal.returns-in-Ok-clause-records
-returns-in-Ok-clause-records g c =
-    let old = c.args.lines.now in
-    let size : length old.items ≡ c.len-len.result = omega (arith, c.len-len.ensures, old.ok.0) in
-    c.record_pushed.ensures.records old.items size c.in-Ok.ensures.written
+-- an event of the machine
+pub returns-in_ok-outcome-in-OfMachine-clause-step : goal.returns-in_ok-outcome-in-OfMachine-clause-step
+returns-in_ok-outcome-in-OfMachine-clause-step g c =
+    let P : KeptEvent → Type 0 = λ e. KeptEntityStep c.args.reading e c.args.self.now (outcomes.OfMachine c.in_ok-outcome-in-OfMachine.outcome) c.record_event.new.self in
+    subst P (sym c.in-OfMachine.is) c.in_ok-outcome-in-OfMachine.ensures.step
 
-pub returns-in-Ok-clause-sparing : goal.returns-in-Ok-clause-sparing
-returns-in-Ok-clause-sparing g c =
-    let old = c.args.lines.now in
-    let size : length old.items ≡ c.len-len.result = omega (arith, c.len-len.ensures, old.ok.0) in
-    c.record_pushed.ensures.sparing old.items size c.in-Ok.ensures.written
+pub returns-in_ok-outcome-in-OfMachine-clause-records : goal.returns-in_ok-outcome-in-OfMachine-clause-records
+returns-in_ok-outcome-in-OfMachine-clause-records g c = c.in_ok-outcome-in-OfMachine.ensures.records
 
--- it can't be written: it is a request
-pub returns-in-Err-clause-step : goal.returns-in-Err-clause-step
-returns-in-Err-clause-step g c =
-    let asked = c.in-Err.ensures.asked in
-    let left = c.pass_over.new.self in
-    let P : Event → Type 0 = λ e. IfSome c.pass_over.result (λ (o : Outcome). Step c.args.reading e c.args.self.now o left) in
-    subst P (sym asked.1) (on_some _ _ (λ o steps. steps asked.0) c.pass_over.result c.pass_over.ensures.step)
+pub returns-in_ok-outcome-in-OfMachine-clause-sparing : goal.returns-in_ok-outcome-in-OfMachine-clause-sparing
+returns-in_ok-outcome-in-OfMachine-clause-sparing g c = λ none alike.
+    let asked = ap (λ (e : KeptEvent). may_change_kept c.args.reading c.args.self.now e (outcomes.OfMachine c.in_ok-outcome-in-OfMachine.outcome)) c.in-OfMachine.is in
+    c.in_ok-outcome-in-OfMachine.ensures.sparing (sym asked ∙ none) alike
 
-pub returns-in-Err-clause-records : goal.returns-in-Err-clause-records
-returns-in-Err-clause-records g c =
-    let left = c.pass_over.new in
-    let P : List ℕ → Type 0 = λ l. IfSome c.pass_over.result (λ (o : Outcome). Records KeepsEntity c.args.self.now l left.self left.lines.items) in
-    subst P c.in-Err.ensures.err c.pass_over.ensures.records
+-- which item is to be sent
+pub returns-in-Next-clause-step : goal.returns-in-Next-clause-step
+returns-in-Next-clause-step g c =
+    let P : KeptEvent → Type 0 = λ e. IfSome c.record_look.result (λ (o : KeptOutcome). KeptEntityStep c.args.reading e c.args.self.now o c.record_look.new.self) in
+    subst P (sym c.in-Next.is) c.record_look.ensures.step
 
-pub returns-in-Err-clause-sparing : goal.returns-in-Err-clause-sparing
-returns-in-Err-clause-sparing g c =
-    let left = c.pass_over.new in
-    let same = c.in-Err.ensures.err in
-    let P : List ℕ → Type 0 = λ l. IfSome c.pass_over.result (λ (o : Outcome). differs c.args.self.now left.self ≡ false → left.lines.items ≡ l) in
-    on_some (λ (o : Outcome). differs c.args.self.now left.self ≡ false → left.lines.items ≡ c.args.lines.now.items)
-    (λ (o : Outcome). may_change c.args.event.now o ≡ false → differs c.args.self.now left.self ≡ false → left.lines.items ≡ c.args.lines.now.items)
-    (λ o spared none alike. spared alike) c.pass_over.result (subst P same c.pass_over.ensures.sparing)
+pub returns-in-Next-clause-sparing : goal.returns-in-Next-clause-sparing
+returns-in-Next-clause-sparing g c =
+    let left = c.record_look.new in
+    on_some (λ (o : KeptOutcome). differs c.args.self.now left.self ≡ false → left.lines.items ≡ c.args.lines.now.items)
+    (λ (o : KeptOutcome). may_change_kept c.args.reading c.args.self.now c.args.event.now o ≡ false → differs c.args.self.now left.self ≡ false → left.lines.items ≡ c.args.lines.now.items)
+    (λ o spared none alike. spared alike) c.record_look.result c.record_look.ensures.sparing
+
+-- it was sent
+pub returns-in-Sent-clause-step : goal.returns-in-Sent-clause-step
+returns-in-Sent-clause-step g c =
+    let P : KeptEvent → Type 0 = λ e. IfSome c.record_sent.result (λ (o : KeptOutcome). KeptEntityStep c.args.reading e c.args.self.now o c.record_sent.new.self) in
+    subst P (sym c.in-Sent.is) c.record_sent.ensures.step
+
+pub returns-in-Sent-clause-sparing : goal.returns-in-Sent-clause-sparing
+returns-in-Sent-clause-sparing g c =
+    let left = c.record_sent.new in
+    let P : KeptEvent → Type 0 = λ e.
+    IfSome c.record_sent.result (λ (o : KeptOutcome). may_change_kept c.args.reading c.args.self.now e o ≡ false → differs c.args.self.now left.self ≡ false → left.lines.items ≡ c.args.lines.now.items) in
+    subst P (sym c.in-Sent.is) c.record_sent.ensures.sparing

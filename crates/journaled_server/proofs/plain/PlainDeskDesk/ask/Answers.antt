@@ -1,4 +1,4 @@
-use Rattle.std.proofs.Common.{refl, sym, ap}
+use Rattle.std.proofs.Common.{sym, ap}
 use Rattle.kept_desk.specs.declared.turn.Answer.TheVariants.{Kept}
 use Rattle.cse_machine.specs.declared.event.Outcome.TheVariants.{Starved}
 use Rattle.journaled_server.specs.Plain.{plain_outcome}
@@ -7,8 +7,7 @@ use Rattle.journaled_server.proofs.plain.PlainDeskDesk.ask.Goals as goal
 
 pub returns-in-Kept-clause-asked : goal.returns-in-Kept-clause-asked
 returns-in-Kept-clause-asked g c =
-    let it = c.in-Kept in
-    plain_asked g.D.Desk.grown c.args.seat.now c.ask.new.seat c.args.reading c.args.event (Kept it.outcome) it.outcome refl it.ensures.asked
+    plain_asked g.D.Desk.grown c.args.seat.now c.ask.new.seat c.args.reading c.args.event (Kept c.in-Kept.came) c.outcome_of.result c.outcome_of.ensures c.in-Kept.ensures.asked
 
 pub returns-in-Lost-clause-asked : goal.returns-in-Lost-clause-asked
 returns-in-Lost-clause-asked g c =

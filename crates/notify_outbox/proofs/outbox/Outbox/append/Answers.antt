@@ -55,7 +55,7 @@ invariant_of-self c =
     let places = c.self.invariant.4 in
     let room = c.put.ensures.room in
     let many = c.put.ensures.many in
-    (subst (λ (n : ℕ). AreKept c.put.new.queues.items (c.self.inside.count + 1) n) (sym c.least_of-oldest.ensures) (kept_put c.self.inside.queues.items c.put.new.queues.items c.self.inside.count c.self.inside.oldest item refl c.self.invariant.0 puts before), ids.2, omega arith, omega arith, omega arith)
+    (subst (λ (n : ℕ). AreKept c.put.new.queues.items (c.self.inside.count + 1) n) (sym c.least_of-oldest.ensures) (kept_put c.self.inside.queues.items c.put.new.queues.items c.self.inside.count c.self.inside.oldest item (omega arith) c.self.invariant.0 puts before), ids.2, omega arith, omega arith, omega arith)
 
 pub returns : goal.returns
 returns c =
@@ -68,5 +68,5 @@ returns c =
     let some = c.requires.room in
     let top = c.self.invariant.3 in
     let next : c.self.inside.count + 1 ≡ next_number c.self.inside.count = omega arith in
-    appended_view (in_order (joined c.self.inside.queues.items)) (in_order (joined c.put.new.queues.items)) c.self.inside.count (length c.self.inside.nodes) (length c.node_of-node.new.nodes) c.args.since c.args.note item (put_last c.self.inside.queues.items c.put.new.queues.items c.self.inside.count c.self.inside.oldest item refl c.self.invariant.0 puts) known next c.node_of-node.ensures.rest
+    appended_view (in_order (joined c.self.inside.queues.items)) (in_order (joined c.put.new.queues.items)) c.self.inside.count (length c.self.inside.nodes) (length c.node_of-node.new.nodes) c.args.since c.args.note item (put_last c.self.inside.queues.items c.put.new.queues.items c.self.inside.count c.self.inside.oldest item (omega arith) c.self.invariant.0 puts) known next c.node_of-node.ensures.rest
     ∙ ap (appended c.args.note c.args.since) c.self.view_is

@@ -1,0 +1,5 @@
+pub mod Heads
+pub mod Items
+pub mod Laws
+pub mod Resources
+pub mod Values

@@ -1,0 +1,3 @@
+pub mod Steps
+pub mod Losses
+pub mod Machine

@@ -1,0 +1,23 @@
+//! What a CSE is asked that keeps a journal, and what comes of it: the events of the machine, and
+//! two of who sends what waits in the outbox.
+//!
+//! An item that was taken from the outbox before it is sent would be lost by a crash in between.
+//! So `Next` tells which item is to be sent, and leaves it in the outbox. Once it was sent,
+//! `Sent` with its number takes it. A crash in between leaves it there, and it is sent once more.
+//! If it isn't the next item any more, as it has waited too long or its channel was made, `Sent`
+//! takes nothing, and who sends looks again (specs/Steps).
+//!
+//! ```text
+//! KeptEvent::Next             // KeptOutcome::Next(Some(item)): send item.note
+//! KeptEvent::Sent(item.number) // KeptOutcome::Taken
+//! KeptEvent::OfMachine(Event::Ask(request)) // KeptOutcome::OfMachine(Outcome::Done(reply))
+//! ```
+#![tactic(auto)]
+
+mod event;
+mod laws;
+
+pub use event::{KeptEvent, KeptOutcome};
+pub use laws::{
+    an_item_stays_until_it_was_sent, each_event_is_one_of_the_machine, what_is_told_stays,
+};

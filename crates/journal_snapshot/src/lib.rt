@@ -1,0 +1,22 @@
+//! A journal is replaced by the snapshot of the entity that it makes, so that it opens fast again.
+//!
+//! `shorten` opens the entity of a home at the journal in the file that has a name, and puts a file
+//! in its place whose journal is the snapshot of that entity: it makes the same entity, with no
+//! deed to be done again (specs/Shortening). A crash at any moment leaves the old file under the
+//! name, or the new one with all its bytes; either opens as the same entity. A file that is refused
+//! stays under its name as it was.
+//!
+//! ```text
+//! let mut file = DiskFile::open_there(rt, "journal")?; // with its lock
+//! let mut name = DiskName::new(rt, "journal")?;
+//! shorten(alloc, &mut name, &mut file, home, IndexTree::new(alloc))?; // or why not
+//! ```
+#![tactic(auto)]
+
+mod fault;
+mod shortening;
+
+pub use fault::ShorteningFault;
+pub use journal_opening::OpeningFault;
+pub use kept_name::KeptName;
+pub use shortening::shorten;

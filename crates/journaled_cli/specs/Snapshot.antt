@@ -1,0 +1,47 @@
+-- What the command `snapshot` does.
+use Rattle.std.specs.Prelude.{◌≡◌, ◌≢◌, ◌⊎◌, ℕ, List, Option, Some, None, IfSome}
+use Rattle.m2m_io.specs.declared.status.Status.{Status}
+use Rattle.m2m_io.specs.declared.status.Status.TheVariants.{Done, Memory, Usage, WriteFault}
+use Rattle.kept_file.specs.Crashes.{LeavesOnly}
+use Rattle.journal_file.specs.Gates.{KeepsText}
+use Rattle.journal_lines.specs.declared.deed.Dated.{Dated}
+use Rattle.resource_model.specs.Home.{HomeData}
+use Rattle.entity_model.specs.Entity.{EntityData}
+use Rattle.command_words.specs.Command.{Command}
+use Rattle.journal_opening.specs.Journals.{IsJournalOf, made_of}
+use Rattle.journal_opening.specs.Snapshots.{KeepsMaking}
+use Rattle.journal_snapshot.specs.Shortening.{IsRefusedFor, LeavesSnapshot}
+use Rattle.journal_snapshot.specs.declared.fault.ShorteningFault.{ShorteningFault}
+use Rattle.journal_snapshot.specs.declared.fault.ShorteningFault.TheVariants as why
+use Rattle.journaled_cli.specs.Run.{refusal}
+
+-- the status where a journal was replaced, or wasn't for this fault
+abbrev pub status_for : Option ShorteningFault → Status
+status_for None = Done
+status_for (Some (why.Refused fault)) = refusal fault
+status_for (Some why.Unkept) = WriteFault
+status_for (Some why.Failed) = WriteFault
+status_for (Some why.OutOfMemory) = Memory
+
+module _ {N : Type 0} (tells : Type 0) (seen : N → List ℕ) (may_leave : N → List ℕ → Type 0)
+    (moment : N → ℕ) (left_since : N → ℕ → List ℕ → Type 0) where
+  -- The journal of this home under a name was replaced by the snapshot of the entity that it makes,
+  -- unless there was a fault. A crash at any moment leaves a journal that makes that entity. What
+  -- isn't replaced stays, unless a call failed.
+  pub record Shortens (home : HomeData) (old new : N) (status : Status) : Type 0 where
+    pub fault : Option ShorteningFault
+    pub status_is : status ≡ status_for fault
+    pub leaves : tells → fault ≡ None → (base : EntityData) (deeds : List Dated) (text : List ℕ)
+        → IsJournalOf home base deeds text → KeepsText text (seen old)
+        → LeavesSnapshot (made_of deeds base) (may_leave new)
+    pub any_moment : tells → (base : EntityData) (deeds : List Dated) (text : List ℕ)
+        → IsJournalOf home base deeds text → KeepsText text (seen old)
+        → LeavesOnly moment left_since old new (KeepsMaking home (made_of deeds base))
+    pub refused : tells → IfSome fault (IsRefusedFor home (seen old))
+    pub stays : IfSome fault (λ f. f ≢ why.Failed → new ≡ old)
+
+  -- What is done for words: for those that are no command, which are usage unless memory runs out
+  -- for reading them, nothing.
+  abbrev pub RunsSnapshot : Option Command → N → N → Status → Type 0
+  RunsSnapshot None old new status = ((status ≡ Usage) ⊎ (status ≡ Memory)) × (new ≡ old)
+  RunsSnapshot (Some command) old new status = Shortens command.home old new status

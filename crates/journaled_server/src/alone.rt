@@ -1,0 +1,70 @@
+//! One connection and one outbox of an object that is kept, where nobody else asks it.
+ghost use Rattle.std.specs.Prelude.{◌≡◌};
+ghost use Rattle.turn_desk.specs.Growth.{IsOwnRun};
+ghost use Rattle.kept_desk.specs.Kept.{KeptGrown};
+ghost use Rattle.cse_server.specs.Connection.{Serves};
+ghost use Rattle.cse_server.specs.Outside.{link_told, outside, sink_told};
+ghost use Rattle.journaled_server.specs.Sending.{SendsThenTakes, sender};
+ghost use Rattle.journaled_server.specs.Serving.{AnswersGrown};
+
+use crate::{LossSignal, PlainDesk, send_kept};
+use cse_server::{Ended, serve_connection};
+use journal_events::{KeptEvent, KeptOutcome};
+use kept_desk::{KeptDesk, Report, Turn};
+use m2m_io::{Clock, Connection, Link};
+use std::alloc::{AllocError as OutOfMemory, Global};
+use turn_desk::{Object, OwnDesk, OwnSeat};
+
+/// Serves one connection, as `serve_connection` of the crate cse_server does, at a seat that holds
+/// an object which is kept.
+pub fn serve_kept_alone<O, X, C, L>(
+    alloc: Global,
+    seat: &mut OwnSeat<O>,
+    conn: &mut X,
+    clock: &mut C,
+    link: &mut L,
+) -> Ended
+where
+    O: Object<Event = Turn<KeptEvent>, Outcome = Report<KeptOutcome>>,
+    X: Connection,
+    C: Clock,
+    L: Link,
+    ensures serves { let old = outside (X.left conn.old)
+        (sink_told (X.written conn.old) (X.puts conn.old)) (C.readings clock.old)
+        (link_told (L.exchanges link.old) (L.faults link.old)) in
+        let new = outside (X.left conn.new)
+        (sink_told (X.written conn.new) (X.puts conn.new)) (C.readings clock.new)
+        (link_told (L.exchanges link.new) (L.faults link.new)) in
+        Serves (AnswersGrown (IsOwnRun O.step)) seat.old seat.new old new result }
+    ensures holds { (X.kept_by_read conn.new).holds ≡ (X.kept_by_read conn.old).holds }
+{
+    let losses = LossSignal::new();
+    let desk = OwnDesk::new();
+    let kept = KeptDesk::new(&desk);
+    let plain = PlainDesk::new(&kept, &losses);
+    serve_connection(alloc, &plain, seat, conn, clock, link)
+}
+
+/// Sends the items of the outbox of an object that is kept, as `send_kept` does, at a seat that
+/// holds it.
+pub fn send_kept_alone<O, C, L>(
+    alloc: Global,
+    seat: &mut OwnSeat<O>,
+    clock: &mut C,
+    link: &mut L,
+) -> Result<u64, OutOfMemory>
+where
+    O: Object<Event = Turn<KeptEvent>, Outcome = Report<KeptOutcome>>,
+    C: Clock,
+    L: Link,
+    ensures { SendsThenTakes (KeptGrown (IsOwnRun O.step))
+        (sender seat.old (C.readings clock.old)
+        (link_told (L.exchanges link.old) (L.faults link.old)))
+        (sender seat.new (C.readings clock.new)
+        (link_told (L.exchanges link.new) (L.faults link.new))) result }
+{
+    let losses = LossSignal::new();
+    let desk = OwnDesk::new();
+    let kept = KeptDesk::new(&desk);
+    send_kept(alloc, &kept, &losses, seat, clock, link)
+}
