@@ -10,6 +10,7 @@
 //! anything of it is written: a value that is too deep, and a request that no journal keeps.
 //!
 //! ```text
+//! let mut scratch = Scratch::new(alloc);
 //! push_resource(alloc, &mut text, &resource)?; // [[7,3,1],"data","CDev",[100,100,200],{"st":0}]
 //! let found = first_resource(alloc, &mut scratch, &text)?; // it, and how many bytes its line has
 //! ```

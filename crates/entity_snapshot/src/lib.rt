@@ -9,6 +9,7 @@
 //! entity. A refusal tells the line.
 //!
 //! ```text
+//! let mut scratch = Scratch::new(alloc);
 //! let text = snapshot_text(alloc, &entity)?;
 //! let (same, len) = open_snapshot(alloc, &mut scratch, &text, home, IndexTree::new(alloc))?;
 //! ```

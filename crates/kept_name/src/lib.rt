@@ -9,7 +9,9 @@
 //! might have left under it.
 //!
 //! ```text
-//! let file = put_in_place(&mut name, &text)?; // the file that has the name from then on
+//! let mut name = MemName::new(alloc, b"old", 0, Vec::new(alloc))?;
+//! let file = put_in_place(&mut name, b"new")?; // the file that has the name from then on
+//! name.images() // the contents that a crash may have left under the name
 //! ```
 #![tactic(auto)]
 

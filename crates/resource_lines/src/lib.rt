@@ -6,7 +6,8 @@
 //!
 //! ```text
 //! let value = resource_value(alloc, &resource)?; // [[7,3,1],"data","CDev",[100,100,200],{"st":0}]
-//! resource_in(alloc, &value) // an equal resource
+//! let same = resource_in(alloc, &value)?; // an equal resource
+//! same.is_some()
 //! ```
 #![tactic(auto)]
 

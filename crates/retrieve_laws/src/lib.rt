@@ -8,6 +8,7 @@
 //! ```text
 //! nothing_is_shown_or_found_without_a_grant(); // each call has its law as its contract
 //! what_is_shown_is_a_filter();
+//! others_are_shown_and_found_by_right();
 //! ```
 #![tactic(auto)]
 
