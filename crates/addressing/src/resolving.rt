@@ -7,6 +7,7 @@ ghost use Rattle.addressing.specs.Names.{IsLocal, segments_of};
 ghost use Rattle.tree_model.specs.Tree.{child_of};
 
 use crate::addr::Addr;
+use crate::segments::Segments;
 use crate::spot::Spot;
 use m2m_names::Ty;
 use std::marker::Brand;
@@ -32,20 +33,26 @@ pub fn name_spot<T: Tree>(tree: &T, addr: &Addr) -> Option<Spot>
     ensures { result ≡ named_here (Ok addr.now) (T.nodes tree.now) }
 {
     match addr {
-        Addr::Local(_) => resolved::<T, Brand>(tree, addr, Blank::new(1)),
-        _ => None,
+        Addr::Local(segments) => name_segments(tree, segments),
+        Addr::Foreign(_) | Addr::OtherProvider => None,
     }
 }
 
-fn resolved<T: Tree, L: Ledger>(tree: &T, addr: &Addr, blank: Blank) -> Option<Spot>
-    requires local { IsLocal addr.now }
+/// What the segments of a local address name, for who counts no steps.
+pub fn name_segments<T: Tree>(tree: &T, segments: &Segments) -> Option<Spot>
+    ensures { result ≡ spec.spot_of segments.now (T.nodes tree.now) }
+{
+    named::<T, Brand>(tree, segments, Blank::new(1))
+}
+
+fn named<T: Tree, L: Ledger>(tree: &T, segments: &Segments, blank: Blank) -> Option<Spot>
     requires name { blank.name ≡ L.name }
     requires parts { blank.parts ≡ L.parts }
     requires some { 0 < blank.parts }
-    ensures { result ≡ spec.spot_of (segments_of addr.now) (T.nodes tree.now) }
+    ensures { result ≡ spec.spot_of segments.now (T.nodes tree.now) }
 {
     let mut steps = Steps::<L>::new(blank);
-    resolve(tree, addr, &mut steps)
+    spot_of(tree, segments.entries(), &mut steps)
 }
 
 #[tactic(auto, using(crate::proofs::CostLemmas::costs_of_looking))]

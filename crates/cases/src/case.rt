@@ -1,6 +1,5 @@
 //! What a case is.
 use std::alloc::{AllocError, Global};
-use tree_model::Home;
 
 /// How a stream is cut into reads.
 #[derive(Drop)]
@@ -75,8 +74,6 @@ pub struct Case {
     pub tail: Vec<u8>,
     pub err_fails: Vec<u64>,
     pub answers: Vec<Vec<u8>>,
-    /// The home of the CSE to which the link leads, in place of answers.
-    pub peer: Option<Home>,
     pub link_fails: Vec<u64>,
     pub conns: Vec<Streams>,
     pub door_fails: Vec<u64>,
@@ -101,7 +98,6 @@ impl Case {
             tail: Vec::new(alloc),
             err_fails: Vec::new(alloc),
             answers: Vec::new(alloc),
-            peer: None,
             link_fails: Vec::new(alloc),
             conns: Vec::new(alloc),
             door_fails: Vec::new(alloc),

@@ -29,9 +29,6 @@
 //! - `fail in N ..`: the reads of these numbers fail, from 1; and so do the calls of `out`, `err`,
 //!   `link` and `door`.
 //! - `answer`: an answer of the link of `first`, a block. Answers are given in order.
-//! - `peer SP CSE-ID BASE TYPE ADMIN`: in place of answers, the link of `first` leads to another
-//!   CSE in memory, of this service provider, CSE-ID, base, CSE type and administrator. It opens at
-//!   the first reading of a clock of its own, which tells what that of the case does.
 //! - `conn`, `conn N`: a connection of the door, or so many alike. The lines `in`, `cut N ..`,
 //!   `cut N*`, `fail in`, `fail out` and `out` behind it are its own.
 //!
@@ -68,14 +65,13 @@ mod reader;
 mod verdict;
 
 use case::Case;
-use devices::words;
 use fault::Fault;
-use std::alloc::Global;
+use std::alloc::{AllocError, Global};
 use std::process::ExitCode;
-use std::rt::Files;
+use std::rt::{Env, Files};
 use std::sync::Wait;
 use std::thread::Threads;
-use std::{fs, io, time};
+use std::{env, fs, io, time};
 
 /// How many cases were played, and how many of them differed.
 #[derive(Clone, Copy)]
@@ -133,6 +129,14 @@ where
             println!(rt; "{file}:{line}: {why}")?;
             Ok(false)
         }
+    }
+}
+
+/// The words behind the program's name; none where they can't be read.
+fn words<R: Env + AllocGlobal>(rt: &R) -> Result<Vec<String>, AllocError> {
+    match env::args(rt) {
+        Ok(args) => args.skip(1).collect(rt.alloc()),
+        Err(_) => Ok(Vec::new(rt.alloc())),
     }
 }
 

@@ -4,20 +4,16 @@ ghost use Rattle.std.specs.Prelude.{◌≤◌, ◌<◌, All, IfOk, vec_len};
 use crate::came::Came;
 use crate::case::{Case, Cuts, Streams};
 use crate::client::{Gets, Sends};
-use crate::link::{CaseLink, Neighbour};
+use crate::link::CaseLink;
 use crate::verdict::difference;
 use cse_cli::run;
 use cse_server::Bench;
-use entity_model::Entity;
-use m2m_io::{Clock, MemClock, MemConn, MemDoor, MemLink, MemSink, MemSource, Status};
-use peer_link::PeerLink;
-use resource_tree::IndexTree;
+use m2m_io::{MemClock, MemConn, MemDoor, MemLink, MemSink, MemSource, Status};
 use std::alloc::{AllocError, Global};
 use std::sync::atomic::{AtomicU64, Ordering};
 use std::sync::{Arc, Wait};
 use std::thread::Threads;
 use std::time;
-use tree_model::Home;
 
 /// The objects of a run.
 #[derive(Drop)]
@@ -116,30 +112,10 @@ fn answers_of(alloc: Global, case: &Case) -> Result<MemLink, AllocError> {
     Ok(MemLink::new(answers, case.link_fails.clone()?))
 }
 
-/// A CSE with this home, which opens at the first reading of the clock of the case.
-fn cse_at(
-    alloc: Global,
-    case: &Case,
-    home: &Home,
-) -> Result<PeerLink<IndexTree, MemClock>, AllocError> {
-    let mut clock = clock_of(alloc, case)?;
-    let reading = clock.now();
-    let entity = Entity::open(alloc, home.copy(alloc)?, IndexTree::new(alloc), reading)?;
-    Ok(PeerLink::new(alloc, entity, clock, case.link_fails.clone()?))
-}
-
-/// What answers the requests that go on.
-fn neighbour_of(alloc: Global, case: &Case) -> Result<Neighbour, AllocError> {
-    match &case.peer {
-        None => Ok(Neighbour::Answers(answers_of(alloc, case)?)),
-        Some(home) => Ok(Neighbour::Cse(cse_at(alloc, case, home)?)),
-    }
-}
-
 /// The bench of the run: the clock of the case, and its link.
 fn first_bench(alloc: Global, case: &Case) -> Result<Bench<MemClock, CaseLink>, AllocError> {
     let clock = clock_of(alloc, case)?;
-    let link = CaseLink::new(alloc, neighbour_of(alloc, case)?);
+    let link = CaseLink::new(alloc, answers_of(alloc, case)?);
     Ok(Bench { clock, link })
 }
 
@@ -148,7 +124,7 @@ fn worker_bench(alloc: Global, case: &Case) -> Result<Bench<MemClock, CaseLink>,
     let none = MemLink::new(Vec::new(alloc), Vec::new(alloc));
     Ok(Bench {
         clock: clock_of(alloc, case)?,
-        link: CaseLink::new(alloc, Neighbour::Answers(none)),
+        link: CaseLink::new(alloc, none),
     })
 }
 

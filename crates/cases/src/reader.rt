@@ -5,7 +5,6 @@ use crate::escapes::push_line;
 use crate::fault::{Fault, Wrong};
 use std::alloc::Global;
 use std::str::FromStr;
-use tree_model::{Home, HomeFault};
 
 /// What a block is.
 #[derive(Clone, Copy)]
@@ -265,7 +264,6 @@ impl Reader {
         match head {
             "cut" => take_cuts(alloc, case, rest),
             "fail" => take_fails(alloc, case, rest),
-            "peer" => take_peer(alloc, case, rest),
             "conn" => take_conn(alloc, case, rest),
             "err" => take_err(case, rest),
             "status" => put_once(&mut case.status, number_of(rest)?),
@@ -286,9 +284,6 @@ impl Reader {
         }
         if case.served.is_none() {
             case.served = Some(case.conn_count());
-        }
-        if case.peer.is_some() && !case.answers.is_empty() {
-            return Err(Wrong::Why("the case above has answers and a CSE that gives them"));
         }
         if case.forms() == 0 {
             return Err(Wrong::Why("the case above has no form to be played in"));
@@ -387,31 +382,6 @@ fn take_fails(alloc: Global, case: &mut Case, rest: &str) -> Result<(), Wrong> {
     }
     *place = fails;
     Ok(())
-}
-
-fn take_peer(alloc: Global, case: &mut Case, rest: &str) -> Result<(), Wrong> {
-    put_once(&mut case.peer, home_of(alloc, rest)?)
-}
-
-/// The home that five words say.
-fn home_of(alloc: Global, rest: &str) -> Result<Home, Wrong> {
-    let words = words_of(alloc, rest)?;
-    let [sp, csi, base, cst, admin] = words.as_slice() else {
-        return Err(Wrong::Why("a home has five words"));
-    };
-    let cst = number_of(cst.as_str())?;
-    match Home::new(
-        alloc,
-        sp.as_bytes(),
-        csi.as_bytes(),
-        base.as_bytes(),
-        cst,
-        admin.as_bytes(),
-    ) {
-        Ok(home) => Ok(home),
-        Err(HomeFault::Bad(_)) => Err(Wrong::Why("no CSE has such a home")),
-        Err(HomeFault::OutOfMemory) => Err(Wrong::OutOfMemory),
-    }
 }
 
 /// The calls of this object that are to fail.

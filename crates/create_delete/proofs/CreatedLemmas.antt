@@ -42,6 +42,8 @@ use Rattle.request_rules.proofs.RoomLemmas.{StandsAlone, HasRoom, free_cse_id_pa
 use Rattle.create_delete.specs.Changing.{container_update_of, pushed_out}
 use Rattle.create_delete.specs.Joining.{IsAllowed, MayJoin}
 use Rattle.create_delete.specs.NewResource.{IsNewInstance, IsNewResource}
+use Rattle.entity_model.proofs.OrderLemmas.{order_kept}
+use Rattle.create_delete.proofs.AttributeOrderLemmas.{new_order}
 use Rattle.create_delete.proofs.NewResourceLemmas.{lacks_creator, lacks_given, lacks_link, link_known, new_kinds, new_name_is_free, state_small, wanted_none}
 use Rattle.create_delete.proofs.RowLemmas.{lacks_attr, value_unset}
 use Rattle.tree_model.proofs.QuietLemmas.{due_case, due_never, due_by_age, due_by_expiry}
@@ -238,6 +240,7 @@ module _ (c : Creation) (sound : IsSoundEntity c.e) (originator : is_originator 
         ids = list_all-append (is_known_id c.e.next) (ids_at Acpi r) (ids_at Macp r) ∙ and_from _ _ acpi_known macp_known;
         room = room.place;
         kinds = new_kinds c originator (omega arith) (λ is. let small : new_size c ≤ 1048576 = small_size is in omega arith) sorted may.few may.admitted;
+        order = order_kept r (new_order c sorted);
         tag = tagged;
         apart = cse_free.1;
         channel = one_channel;

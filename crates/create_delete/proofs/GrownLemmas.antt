@@ -25,7 +25,7 @@ use Rattle.container_limits.specs.Limits.{is_within}
 use Rattle.policy_eval.specs.Rules.{policy_number, ids_at}
 use Rattle.entity_model.specs.Entity.{EntityData}
 use Rattle.create_delete.specs.NewResource.{IsNewResource}
-use Rattle.entity_model.specs.Sound.{is_known_id, has_known_ids, has_free_name, has_size, has_state_tag, is_shallow, is_within_limits, begins_with_base, cse_ids, are_distinct, has_one_channel, IsSoundEntity}
+use Rattle.entity_model.specs.Sound.{is_known_id, has_known_ids, has_free_name, has_size, has_state_tag, is_shallow, is_within_limits, keeps_order, begins_with_base, cse_ids, are_distinct, has_one_channel, IsSoundEntity}
 use Rattle.entity_model.proofs.SoundLemmas.{IsFramed, framed_from, sound_framed, distinct_parts}
 use Rattle.tree_model.specs.Shown.{own_cse_id}
 use Rattle.request_rules.proofs.RoomLemmas.{place_parts}
@@ -240,6 +240,7 @@ framed_grown e r framed new =
       depth = shallow_grown e.nodes r tree next.number place.depth framed.depth;
       count = omega arith;
       kinds = all_grown are_kinds e.nodes r framed.kinds new.kinds;
+      order = all_grown keeps_order e.nodes r framed.order new.order;
       tags = all_grown has_state_tag e.nodes r framed.tags new.tag;
       cses = cses_grown e.home e.nodes r next.cse new.apart framed.cses;
       channels = channels_grown e.nodes r tree next (λ polls. ap length (nothing_picked (is_kin PollingChannel r.parent) e.nodes (none_all _ e.nodes (new.channel polls)))) framed.channels;

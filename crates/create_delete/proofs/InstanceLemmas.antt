@@ -27,7 +27,8 @@ use Rattle.container_limits.specs.Limits.{do_fit, evicted, is_due_by, is_within,
 use Rattle.container_limits.proofs.LimitLemmas.{fits_totals}
 use Rattle.tree_model.proofs.OrderLemmas.{ascend_filter, tree_ascends}
 use Rattle.entity_model.specs.Entity.{EntityData}
-use Rattle.entity_model.specs.Sound.{is_known_id, has_known_ids, has_state_tag, IsSoundEntity}
+use Rattle.entity_model.specs.Sound.{is_known_id, has_known_ids, has_state_tag, keeps_order, IsSoundEntity}
+use Rattle.entity_model.proofs.OrderLemmas.{order-with_value}
 use Rattle.entity_model.proofs.SoundLemmas.{IsFramed, framed_from}
 use Rattle.create_delete.specs.Changing.{without_all}
 use Rattle.request_rules.specs.Creation.{is_below}
@@ -136,6 +137,7 @@ module _ (e : EntityData) (r c : ResourceData) (st : ℕ) (sound : IsSoundEntity
     stood = stood;
     ids = ids_restamped (e.next + 1) e.last st c ∙ known;
     kinds = kinds_restamped e.last st c is_container filling.small (number_passes are_kinds n grown c frame.kinds there);
+    order = order-with_value St (number (pos st)) c.attrs (number_passes keeps_order n grown c frame.order there);
     tag = tag_restamped e.last st c;
     plain = plain;
     later = expires_later (at c.parent grown) c e.last is_container quiet;

@@ -1,10 +1,11 @@
+pub mod AttributeOrderLemmas
 pub mod CarriedLemmas
 pub mod ChangesLemmas
 pub mod CreatableLemmas
 pub mod CreatedLemmas
 pub mod DeletionLemmas
 pub mod EffectLemmas
-pub mod GoingLemmas
+pub mod GatheringLemmas
 pub mod GrownLemmas
 pub mod InstanceLemmas
 pub mod JoinedLemmas

@@ -18,7 +18,7 @@ use Rattle.tree_model.proofs.QuietLemmas.{all_by_number, number_passes, due-repl
 use Rattle.tree_model.proofs.TreeLemmas.{at_has, at_number, at-replaced, at-replaced_other}
 use Rattle.attribute_rules.specs.Kinds.{are_kinds}
 use Rattle.entity_model.specs.Entity.{EntityData}
-use Rattle.entity_model.specs.Sound.{has_known_ids, has_free_name, has_size, has_state_tag, is_shallow, begins_with_base, are_distinct, has_one_channel}
+use Rattle.entity_model.specs.Sound.{has_known_ids, has_free_name, has_size, has_state_tag, is_shallow, keeps_order, begins_with_base, are_distinct, has_one_channel}
 use Rattle.entity_model.proofs.SoundLemmas.{IsFramed}
 use Rattle.create_delete.specs.NewResource.{IsReplacement}
 use Rattle.create_delete.proofs.GrownLemmas.{is_within_but, within_by, none_all}
@@ -141,6 +141,7 @@ framed_replaced e c framed new =
       depth = all_deep;
       count = omega arith;
       kinds = all_replaced are_kinds c e.nodes framed.kinds new.kinds;
+      order = all_replaced keeps_order c e.nodes framed.order new.order;
       tags = all_replaced has_state_tag c e.nodes framed.tags new.tag;
       cses = ap (λ (ids : List (List ℕ)). are_distinct (own_cse_id e.home ∷ ids)) (cses_replaced e.nodes c new.stood) ∙ framed.cses;
       channels = all_channels;

@@ -35,6 +35,8 @@ use Rattle.attribute_rules.proofs.ValueLemmas.{value_edited}
 use Rattle.policy_eval.specs.Rules.{listed_in, ids_at}
 use Rattle.entity_model.specs.Entity.{EntityData, last_reading}
 use Rattle.entity_model.specs.Sound.{is_known_id, has_known_ids, IsSoundEntity}
+use Rattle.entity_model.proofs.OrderLemmas.{order_at, order_kept}
+use Rattle.create_delete.proofs.AttributeOrderLemmas.{updated_order}
 use Rattle.request_rules.specs.Creation.{next_state}
 use Rattle.request_rules.specs.Groups.{MembershipData, group_rows, member_rows, membership_edited}
 use Rattle.request_rules.specs.Policies.{link_row, listed}
@@ -197,6 +199,7 @@ module _ (e : EntityData) (es : List Entry) (r : ResourceData) (sound : IsSoundE
     stood = stood;
     ids = list_all-append (is_known_id e.next) (ids_at Acpi now) (ids_at Macp now) ∙ and_from _ _ acpi_known macp_known;
     kinds = kinds;
+    order = order_kept now (updated_order e es r (order_at r.number e r sound may.stands));
     tag = tagged;
     plain = types.1;
     later = expires;

@@ -23,9 +23,21 @@ use Rattle.tree_model.proofs.QuietLemmas.{number_passes}
 use Rattle.tree_model.proofs.TakenLemmas.{all_taken}
 use Rattle.tree_model.proofs.TreeLemmas.{at_number, has_from_at}
 use Rattle.create_delete.specs.Telling.{IsSilent}
-use Rattle.create_delete.proofs.GoingLemmas.{not_true_is, unfiltered}
 use Rattle.create_delete.proofs.KeptToldLemmas.{other_untold}
 use Rattle.entity_model.proofs.LoweringLemmas.{each_of}
+
+-- ---- what no test picks
+
+unfiltered : (p : ResourceData → Bool) (nodes : List ResourceData) → filter p nodes ≡ [] → list_all (λ s. not (p s)) nodes ≡ true
+unfiltered p [] none = refl
+unfiltered p (s ∷ nodes) none = elim (cases_Bool (p s)) [
+  | inl t ↦ (let some : s ∷ filter p nodes ≡ [] = rw t at none in cc)
+  | inr f ↦ rw f (unfiltered p nodes (rw f at none))
+]
+
+not_true_is : (b : Bool) → not b ≡ true → b ≡ false
+not_true_is true t = absurd (both_ways _ refl t)
+not_true_is false t = refl
 
 -- ---- what stands below one stands at or below a child of it
 
@@ -33,16 +45,16 @@ module _ (nodes : List ResourceData) (tree : is_tree nodes ≡ true) where
   abbrev pub in_line : ℕ → ℕ → Bool
   in_line n m = list_any (has_number n) (line_of m nodes)
 
-  record IsUnderChild (n m : ℕ) : Type 0 where
-    child : ResourceData
-    found : at child.number nodes ≡ Some child
-    under : child.parent ≡ n
-    line : in_line child.number m ≡ true
+  pub record IsUnderChild (n m : ℕ) : Type 0 where
+    pub child : ResourceData
+    pub found : at child.number nodes ≡ Some child
+    pub under : child.parent ≡ n
+    pub line : in_line child.number m ≡ true
 
   pub up_line : (n m : ℕ) (s : ResourceData) → at m nodes ≡ Some s → in_line n m ≡ (has_number n s || in_line n s.parent)
   up_line n m s found = ap (list_any (has_number n)) (stands nodes tree m s found).line
 
-  no_line : (n m : ℕ) → at m nodes ≡ None → in_line n m ≡ false
+  pub no_line : (n m : ℕ) → at m nodes ≡ None → in_line n m ≡ false
   no_line n m none = ap (list_any (has_number n)) (line_none m nodes tree (has_from_at m nodes none))
 
   -- by what stands at its number, where that is known of what it stands under
@@ -69,7 +81,7 @@ module _ (nodes : List ResourceData) (tree : is_tree nodes ≡ true) where
         ]
       ]
 
-  child_in_line : (k n m : ℕ) → m < k → in_line n m ≡ true → (m ≡ n) ⊎ IsUnderChild n m
+  pub child_in_line : (k n m : ℕ) → m < k → in_line n m ≡ true → (m ≡ n) ⊎ IsUnderChild n m
   child_in_line zero n m less t = absurd (omega (arith, less))
   child_in_line (suc k) n m less t = by_found k n m less (λ s lower up. child_in_line k n s.parent lower up) t (at m nodes) refl
 
@@ -116,7 +128,7 @@ all_both p q (r ∷ rs) most = elim (cases_Bool (p r)) [
   | inr f ↦ rw f (all_both p q rs (rw f at most))
 ]
 
-found_place : (p : ResourceData → Bool) (nodes : List ResourceData) (n : ℕ) (c : ResourceData) → at n nodes ≡ Some c → p c ≡ true → (k : ℕ) × (slice_get (filter p nodes) k ≡ Some c)
+pub found_place : (p : ResourceData → Bool) (nodes : List ResourceData) (n : ℕ) (c : ResourceData) → at n nodes ≡ Some c → p c ≡ true → (k : ℕ) × (slice_get (filter p nodes) k ≡ Some c)
 found_place p [] n c found t = cc
 found_place p (s ∷ nodes) n c found t = elim (cases_Bool (has_number n s)) [
   | inl own ↦

@@ -1,20 +1,24 @@
 //! The resource that a Create makes.
-ghost use Rattle.std.specs.Prelude.{◌≡◌, ◌<◌, IfOk, IsTrue, IsUtf8, OnOk, pos};
+ghost use Rattle.std.specs.Prelude.{◌≡◌, ◌==◌, ◌<◌, ◌∷◌, [], IfOk, IsTrue, IsUtf8, List, OnOk};
+ghost use Rattle.std.specs.Prelude.{if◌then◌else◌, length, pos};
 ghost use Rattle.m2m_names.specs.Ids.{count_bound};
 ghost use Rattle.m2m_names.specs.Name.{is_originator};
+ghost use Rattle.m2m_names.specs.declared.attributes.Attr.TheVariants.{Acpi, Macp};
 ghost use Rattle.m2m_value.specs.Data as json;
+ghost use Rattle.m2m_value.specs.Data.{Entry};
 ghost use Rattle.resource_model.specs.Attributes.{with_value};
 ghost use Rattle.tree_model.specs.Shown.{with_rows};
+ghost use Rattle.entity_model.specs.Entity.{EntityData};
 ghost use Rattle.request_rules.specs.Creation as spec;
-ghost use Rattle.request_rules.specs.Judged.{IsCreateBy, creation_for};
-ghost use Rattle.request_rules.specs.Policies as policies;
+ghost use Rattle.request_rules.specs.Judged.{AreLinksOf, IsCreateBy, creation_for};
+ghost use Rattle.request_rules.specs.Policies.{link_row, links_live};
 ghost use Rattle.create_delete.specs.Joining.{IsAllowed};
 
 use attribute_rules::{is_named, kept_attrs};
 use entity_model::Entity;
 use m2m_names::{Attr, LARGEST_COUNT, Ty};
 use m2m_value::{Items, Members, Text, Val};
-use request_rules::{AllowedCreate, listed, new_ae_id, new_owner, policy_ids};
+use request_rules::{AllowedCreate, Links, new_ae_id, new_owner};
 use std::alloc::{AllocError as OutOfMemory, Global};
 use tree_model::{Attrs, Moments, Resource, Tree};
 
@@ -109,26 +113,29 @@ fn sign(
     }
 }
 
-// The policies that an attribute names, by their resource ids.
-pub(crate) fn link<T: Tree>(
-    alloc: Global,
-    entity: &Entity<T>,
-    members: &Members,
-    attr: Attr,
-    attrs: &mut Attrs,
-) -> Result<(), OutOfMemory>
-    ensures { OnOk result (attrs.new ≡ with_rows
-        (policies.link_row entity.now members.now attr) attrs.old) }
+// The policies that an attribute names, by their resource ids; where it names none, it isn't kept.
+fn link(attr: Attr, ids: Vec<Val>, attrs: &mut Attrs) -> Result<(), OutOfMemory>
+    ensures { OnOk result (attrs.new ≡ with_rows (if length ids.items == 0 then []
+        else (attr, json.list (json.elements_of ids.items)) ∷ []) attrs.old) }
 {
-    let values = listed(attr, members);
-    if values.is_empty() {
+    if ids.is_empty() {
         return Ok(());
     }
-    let ids = policy_ids(alloc, entity, values)?;
     attrs.set(attr, Val::of_list(Items::of(ids)))
 }
 
-// All that it keeps beside what the content gives it.
+/// Puts in the policies that a content names, which are live.
+pub(crate) fn link_all(links: Links, attrs: &mut Attrs) -> Result<(), OutOfMemory>
+    ensures { (e : EntityData) (es : List Entry) → AreLinksOf e es links → IsTrue (links_live e es)
+        → OnOk result (attrs.new
+        ≡ with_rows (link_row e es Macp) (with_rows (link_row e es Acpi) attrs.old)) }
+{
+    link(Attr::Acpi, links.acpi, attrs)?;
+    link(Attr::Macp, links.macp, attrs)?;
+    Ok(())
+}
+
+// What it keeps beside what the content gives it, but for the policies that are named.
 fn add_besides<T: Tree>(
     alloc: Global,
     entity: &Entity<T>,
@@ -140,14 +147,13 @@ fn add_besides<T: Tree>(
     requires allowed { IsAllowed (creation_for entity.now originator.now create.now) }
     requires parts { IsCreateBy entity.now create.now.ty create.now.parent.now create.now.named.now
         create.now }
-    ensures { OnOk result (attrs.new ≡ with_rows (spec.rows_besides
-        (creation_for entity.now originator.now create.now)) attrs.old) }
+    ensures { OnOk result (attrs.new
+        ≡ with_rows (spec.creator_rows originator.now create.now.named.now)
+        (with_rows (spec.given_rows create.now.ty
+        (creation_for entity.now originator.now create.now)) attrs.old)) }
 {
     give(alloc, entity, originator, create, attrs)?;
-    sign(alloc, originator, create.named, attrs)?;
-    link(alloc, entity, create.named, Attr::Acpi, attrs)?;
-    link(alloc, entity, create.named, Attr::Macp, attrs)?;
-    Ok(())
+    sign(alloc, originator, create.named, attrs)
 }
 
 /// The resource that a Create makes which no place refuses.
@@ -172,6 +178,7 @@ pub(crate) fn new_resource<T: Tree>(
     let owner = new_owner(alloc, originator, create.ty, entity.next)?;
     let mut attrs = kept_attrs(alloc, create.named)?;
     add_besides(alloc, entity, originator, &create, &mut attrs)?;
+    link_all(create.links, &mut attrs)?;
     Ok(Resource::of(
         entity.next,
         create.ty,

@@ -7,10 +7,12 @@ ghost use Rattle.attribute_rules.specs.Admission.{are_admitted};
 ghost use Rattle.attribute_rules.specs.Contents as contents;
 ghost use Rattle.attribute_rules.specs.declared.table.Writing.TheVariants.{Update};
 ghost use Rattle.tree_model.specs.Shown.{with_rows};
-ghost use Rattle.request_rules.specs.Groups.{group_rows, membership_edited};
+ghost use Rattle.request_rules.specs.Judged.{IsUpdateBy};
+ghost use Rattle.request_rules.specs.Policies.{links_live};
+ghost use Rattle.entity_model.specs.Entity.{EntityData};
 ghost use Rattle.create_delete.specs.Changing as spec;
 
-use crate::building::{keep_members, link, next_state, set_count};
+use crate::building::{keep_members, link_all, next_state, set_count};
 use attribute_rules::{Edit, edit_in, is_named};
 use entity_model::Entity;
 use m2m_names::{Attr, Ty};
@@ -66,18 +68,12 @@ fn count_change(resource: &Resource, attrs: &mut Attrs) -> Result<(), OutOfMemor
 }
 
 // The attributes after an update.
-#[tactic(auto, using(crate::proofs::RowLemmas::given_in_turn))]
-fn updated_attrs<T: Tree>(
-    alloc: Global,
-    entity: &Entity<T>,
-    update: &AllowedUpdate,
-) -> Result<Attrs, OutOfMemory>
-    requires admitted { IsTrue
-        (are_admitted Update update.now.target.now.ty update.now.named.now) }
-    requires members { update.now.members.items ≡ group_rows entity.now
-        (membership_edited update.now.target.now update.now.named.now) }
-    ensures { IfOk result (λ a. a ≡ (spec.updated_resource entity.now
-        update.now.named.now update.now.target.now).attrs) }
+fn updated_attrs(alloc: Global, update: AllowedUpdate<'_>) -> Result<Attrs, OutOfMemory>
+    requires admitted { IsTrue (are_admitted Update update.target.now.ty update.named.now) }
+    ensures { (e : EntityData) → IsUpdateBy e update.entry.target.now update.entry.named.now
+        update.entry → IsTrue (links_live e update.entry.named.now)
+        → IfOk result (λ a. a ≡ (spec.updated_resource e update.entry.named.now
+        update.entry.target.now).attrs) }
 {
     let mut attrs = update.target.attrs().copy(alloc)?;
     edit(
@@ -86,8 +82,7 @@ fn updated_attrs<T: Tree>(
     )?;
     count_change(update.target, &mut attrs)?;
     keep_members(alloc, &update.members, &mut attrs)?;
-    link(alloc, entity, update.named, Attr::Acpi, &mut attrs)?;
-    link(alloc, entity, update.named, Attr::Macp, &mut attrs)?;
+    link_all(update.links, &mut attrs)?;
     Ok(attrs)
 }
 
@@ -109,24 +104,23 @@ fn expiry_after(members: &Members, et: u64) -> u64
 pub(crate) fn updated_resource<T: Tree>(
     alloc: Global,
     entity: &Entity<T>,
-    update: &AllowedUpdate,
+    update: AllowedUpdate<'_>,
 ) -> Result<Resource, OutOfMemory>
-    requires admitted { IsTrue
-        (are_admitted Update update.now.target.now.ty update.now.named.now) }
-    requires members { update.now.members.items ≡ group_rows entity.now
-        (membership_edited update.now.target.now update.now.named.now) }
+    requires admitted { IsTrue (are_admitted Update update.target.now.ty update.named.now) }
+    requires live { IsTrue (links_live entity.now update.named.now) }
+    requires parts { IsUpdateBy entity.now update.target.now update.named.now update }
     ensures { IfOk result (λ r. r ≡ spec.updated_resource entity.now
-        update.now.named.now update.now.target.now) }
+        update.entry.named.now update.entry.target.now) }
 {
     let resource = update.target;
     let name = resource.name().copy(alloc)?;
     let owner = resource.owner().copy(alloc)?;
-    let attrs = updated_attrs(alloc, entity, update)?;
     let moments = Moments {
         ct: resource.ct(),
         lt: entity.last,
         et: expiry_after(update.named, resource.et()),
     };
+    let attrs = updated_attrs(alloc, update)?;
     Ok(Resource::of(
         resource.number(),
         resource.ty(),

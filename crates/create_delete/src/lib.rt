@@ -28,6 +28,7 @@ mod building;
 mod creation;
 mod deletion;
 mod editing;
+mod gathering;
 mod growth;
 mod guard;
 mod joining;

@@ -1,21 +1,20 @@
 //! What an operation tells subscriptions (TS-0001, 9.6.8), before anything is changed.
-ghost use Rattle.std.specs.Prelude.{◌≡◌, ℕ, ◌≤◌, ◌||◌, List, [], length, nat_eq, IfOk, IsTrue, Some};
-ghost use Rattle.std.specs.List.{list_any};
+ghost use Rattle.std.specs.Prelude.{◌≡◌, ℕ, ◌≤◌, List, [], length, IfOk, IsTrue, Some};
 ghost use Rattle.resource_model.specs.Home.{HomeData};
-ghost use Rattle.resource_model.specs.Resource.{ResourceData, has_number};
+ghost use Rattle.resource_model.specs.Resource.{ResourceData};
 ghost use Rattle.subscription_match.specs.Notices.{notes_of_all};
 ghost use Rattle.tree_model.specs.Changes.{creation_changes, deletion_changes, update_changes};
-ghost use Rattle.tree_model.specs.Tree.{at, children_of, has, is_tree, is_well_formed, number_at, DoAscend};
+ghost use Rattle.tree_model.specs.Tree.{at, children_of, has, is_well_formed, number_at, DoAscend};
 ghost use Rattle.entity_model.specs.Telling.{IsTold};
 ghost use Rattle.create_delete.specs.Joining.{gone_by};
 ghost use Rattle.create_delete.specs.Telling as spec;
 
+use crate::gathering::numbers_below;
 use crate::joining::ContainerUpdate;
 use entity_model::{Told, nothing_told, prepare_telling};
-use m2m_value::Numbers;
 use notify_outbox::Outbox;
 use std::alloc::{AllocError as OutOfMemory, Global};
-use tree_model::{AttrSet, Changes, Home, Resource, Tree, over};
+use tree_model::{AttrSet, Changes, Home, Resource, Tree};
 
 /// What a creation tells, with room for it in the outbox.
 pub(crate) fn prepare_creation<T: Tree>(
@@ -155,51 +154,4 @@ fn are_kids_silent<T: Tree>(tree: &T, number: u64) -> bool
         }
     }
     true
-}
-
-// Whether a number is one of these.
-fn is_among(numbers: &[u64], number: u64) -> bool
-    requires { DoAscend numbers.now }
-    ensures { result ≡ list_any (nat_eq number) numbers.now }
-{
-    match numbers.binary_search(&number) {
-        Ok(_) => true,
-        Err(_) => false,
-    }
-}
-
-// Whether a resource is the one of a number, or stands under one of these.
-fn goes_with(target: u64, numbers: &[u64], resource: &Resource) -> bool
-    requires { DoAscend numbers.now }
-    ensures { result ≡ (has_number target resource.now
-        || list_any (nat_eq resource.now.parent) numbers.now) }
-{
-    resource.number() == target || is_among(numbers, resource.parent())
-}
-
-// The numbers of a resource and of all that stands below it. Of one below which nothing stands no
-// other is looked at.
-fn numbers_below<T: Tree>(alloc: Global, tree: &T, target: u64) -> Result<Numbers, OutOfMemory>
-    requires { IsTrue (has target (T.nodes tree.now)) }
-    ensures tree { IsTrue (is_tree (T.nodes tree.now)) }
-    ensures value { IfOk result (λ n. n ≡ spec.numbers_below target (T.nodes tree.now)) }
-{
-    match tree.kid(target, 0) {
-        Some(_) => numbers_in_line(alloc, tree, target),
-        None => Ok(Numbers::of(vec![in alloc; target]?)),
-    }
-}
-
-// What stands below it comes after it, and after what it stands under.
-fn numbers_in_line<T: Tree>(alloc: Global, tree: &T, target: u64) -> Result<Numbers, OutOfMemory>
-    requires { IsTrue (is_tree (T.nodes tree.now)) }
-    ensures { IfOk result (λ n. n ≡ spec.numbers_below target (T.nodes tree.now)) }
-{
-    let mut numbers = Vec::new(alloc);
-    for resource in over(tree) {
-        if goes_with(target, &numbers, resource) {
-            numbers.push(resource.number())?;
-        }
-    }
-    Ok(Numbers::of(numbers))
 }

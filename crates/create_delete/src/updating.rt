@@ -6,8 +6,7 @@ ghost use Rattle.m2m_names.specs.Name.{is_originator};
 ghost use Rattle.m2m_names.specs.declared.operations.Op.TheVariants.{Update};
 ghost use Rattle.entity_model.specs.Places.{ComesTo};
 ghost use Rattle.entity_model.specs.Sound.{IsSoundEntity};
-ghost use Rattle.request_rules.specs.Groups.{group_rows, membership_edited};
-ghost use Rattle.request_rules.specs.Judged.{Judges};
+ghost use Rattle.request_rules.specs.Judged.{IsUpdateBy, Judges};
 ghost use Rattle.request_rules.specs.Order.{fault_at};
 ghost use Rattle.create_delete.specs.Changes.{attrs_of};
 ghost use Rattle.create_delete.specs.Changing as spec;
@@ -74,7 +73,7 @@ fn plan<T: Tree>(
         (IsPreparedUpdate entity.now originator.now request.now target) }
 {
     let update = judge_update(alloc, entity, originator, request, target)?;
-    Ok(prepare(alloc, entity, request, &update)?)
+    Ok(prepare(alloc, entity, request, update)?)
 }
 
 // The resource, what was named of it, what it pushes out, and the reply.
@@ -82,27 +81,27 @@ fn prepare<T: Tree>(
     alloc: Global,
     entity: &Entity<T>,
     request: &Request,
-    update: &AllowedUpdate,
+    update: AllowedUpdate<'_>,
 ) -> Result<PreparedUpdate, OutOfMemory>
     requires sound { IsSoundEntity entity.now }
-    requires allowed { IsUpdatable entity.now update.now.named.now update.now.target.now }
-    requires members { update.now.members.items ≡ group_rows entity.now
-        (membership_edited update.now.target.now update.now.named.now) }
+    requires allowed { IsUpdatable entity.now update.named.now update.target.now }
+    requires parts { IsUpdateBy entity.now update.target.now update.named.now update }
     ensures may { IfOk result (λ p. IsReplacement entity.now p.resource) }
-    ensures same { IfOk result (λ p. p.resource.number ≡ update.now.target.now.number) }
-    ensures named { IfOk result (λ p. p.named ≡ attrs_of update.now.named.now) }
+    ensures same { IfOk result (λ p. p.resource.number ≡ update.entry.target.now.number) }
+    ensures named { IfOk result (λ p. p.named ≡ attrs_of update.entry.named.now) }
     ensures gone { IfOk result (λ p. p.gone ≡ spec.pushed_by entity.now p.resource) }
     ensures reply { IfOk result (λ p. p.reply ≡ (spec.update_effect entity.now request.now
-        update.now.named.now update.now.target.now).reply) }
+        update.entry.named.now update.entry.target.now).reply) }
     ensures after { IfOk result (λ p.
         record entity.now { nodes = spec.nodes_updated entity.now p.resource }
         ≡ (spec.update_effect entity.now request.now
-        update.now.named.now update.now.target.now).after) }
+        update.entry.named.now update.entry.target.now).after) }
 {
+    let members = update.named;
     let resource = updated_resource(alloc, entity, update)?;
-    let named = named_attrs(alloc, update.named)?;
+    let named = named_attrs(alloc, members)?;
     let gone = pushed_by(alloc, entity, &resource)?;
-    let told = updated_content(alloc, entity, request, update.named, &resource)?;
+    let told = updated_content(alloc, entity, request, members, &resource)?;
     let reply = reply_to(alloc, request, Rsc::Updated, told)?;
     Ok(PreparedUpdate {
         resource,

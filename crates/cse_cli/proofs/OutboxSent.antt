@@ -33,8 +33,11 @@ outbox_inside_send : IsSend outbox_inside.the_row
 outbox_inside_send = declared_send outbox_inside.the_type (
   search (sendable, crosses, queue_send) depth 20,
   (
-    search (sendable, crosses) depth 20,
-    (search (sendable, crosses) depth 20, (search (sendable, crosses, text_send) depth 20, (linked_send item.the_row item_send, tt))),
+    linked_send item.the_row item_send,
+    (
+      search (sendable, crosses) depth 20,
+      (search (sendable, crosses) depth 20, (search (sendable, crosses, text_send) depth 20, (linked_send item.the_row item_send, tt))),
+    ),
   ),
 )
 

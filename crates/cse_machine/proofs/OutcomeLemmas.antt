@@ -1,5 +1,5 @@
 -- What comes of a request to a resource, and that it is a step.
-use Rattle.std.proofs.Common.{◌≡◌, ◌⊎◌, ℕ, List, true, false, Option, Some, None, Result, Ok, Err, inl, inr, refl, sym, ap, ◌∙◌}
+use Rattle.std.proofs.Common.{◌≡◌, ◌⊎◌, ℕ, List, true, false, ◌&&◌, Option, Some, None, Result, Ok, Err, inl, inr, refl, sym, ap, ◌∙◌}
 use Rattle.std.specs.Option.{option_map_or}
 use Rattle.m2m_names.specs.declared.codes.Rsc.{Rsc}
 use Rattle.m2m_names.specs.declared.codes.Rsc.TheVariants.{BadRequest, NotFound, NotReachable}
@@ -26,7 +26,7 @@ use Rattle.retarget.specs.Routes.{forwarded, routed}
 use Rattle.retarget.specs.declared.routing.Route.{Route}
 use Rattle.retarget.specs.declared.routing.Route.TheVariants as to
 use Rattle.group_fanout.specs.Rights.{claimed_originator}
-use Rattle.cse_machine.specs.Step.{IsAnswered, IsUnswept, Step}
+use Rattle.cse_machine.specs.Step.{has_fewer_items, has_reply, IsAnswered, IsUnswept, Step, took}
 
 -- ---- outcomes
 
@@ -135,3 +135,11 @@ pub unswept_step : (reading : ℕ) (event : Event) (before after : EntityData) �
 unswept_step reading (Ask request) before after unswept = inr unswept
 unswept_step reading Take before after unswept = unswept
 unswept_step reading Tick before after unswept = unswept
+
+-- an answer leaves fewer items only as a reply
+pub took_is : (before after : EntityData) (request : RequestParts) (outcome : Outcome) → IsAnswered before request outcome after → (has_reply outcome && has_fewer_items before after) ≡ took before outcome after
+took_is before after request (Done reply) answered = refl
+took_is before after request (Forward poa onward) answered = refl
+took_is before after request (Item given) answered = absurd answered
+took_is before after request Ticked answered = absurd answered
+took_is before after request (Starved done) answered = refl

@@ -1,19 +1,14 @@
 -- What comes of a request by where it goes.
-use Rattle.std.proofs.Common.{◌≡◌, ℕ, List, Bool, true, false, Option, Some, None, is_some, Result, Ok, Err, IfOk, OnOk, refl, sym, ap, subst, ◌∙◌}
-use Rattle.std.specs.Prelude.{if◌then◌else◌}
-use Rattle.std.specs.Option.{option_map_or}
+use Rattle.std.proofs.Common.{◌≡◌, ℕ, List, Option, Some, None, Result, Ok, Err, IfOk, OnOk, refl, sym, ap, subst, ◌∙◌}
 use Rattle.m2m_names.specs.declared.codes.Rsc.{Rsc}
 use Rattle.primitive_json.specs.declared.request.RequestParts.{RequestParts}
-use Rattle.resource_model.specs.Resource.{ResourceData}
-use Rattle.addressing.specs.Laws.{named_here}
 use Rattle.addressing.specs.Names.{segments_of, spot_of}
 use Rattle.addressing.specs.declared.addr.Addr.{Addr}
-use Rattle.addressing.specs.declared.addr.Addr.TheVariants.{Local, Foreign, OtherProvider}
-use Rattle.subscription_match.specs.Destinations.{cse_named, first_url}
+use Rattle.addressing.specs.declared.addr.Addr.TheVariants.{Local}
 use Rattle.entity_model.specs.Entity.{EntityData}
 use Rattle.entity_model.specs.Places.{refusal, refused}
 use Rattle.group_fanout.specs.Rights.{claimed_originator}
-use Rattle.retarget.specs.Routes.{comes_from_cse, routed, routed_to}
+use Rattle.retarget.specs.Routes.{routed}
 use Rattle.retarget.specs.declared.routing.Route.{Route}
 use Rattle.retarget.specs.declared.routing.Route.TheVariants as to
 use Rattle.cse_machine.specs.Answer.{ComesToOutcome, EventEffect, address_effect, as_done, onward_effect, point_of, route_effect, spot_effect}
@@ -26,31 +21,9 @@ by_route e request o addr route by is =
     ap (route_effect e request (segments_of addr))
     (ap (λ (t : List ℕ). routed e.nodes t addr) by ∙ sym is)
 
--- what goes on, or isn't reached, doesn't stay
-away : (n : ℕ) (comes reached : Bool) → (if comes then to.NoHop else (if reached then to.Forward n else to.NoPoint)) ≡ to.Local → ⊥
-away n true reached is = cc
-away n false true is = cc
-away n false false is = cc
-
-not_foreign : (nodes : List ResourceData) (o : List ℕ) (cse : Option ResourceData) → option_map_or (routed_to nodes o) cse to.Unknown ≡ to.Local → ⊥
-not_foreign nodes o None is = cc
-not_foreign nodes o (Some cse) is = away cse.number (comes_from_cse nodes o) (is_some (first_url cse)) is
-
-not_unknown : to.Unknown ≡ to.Local → ⊥
-not_unknown is = cc
-
--- what stays names what its segments name
-names_here : (nodes : List ResourceData) (o : List ℕ) (addr : Addr) → routed nodes o addr ≡ to.Local → spot_of (segments_of addr) nodes ≡ named_here (Ok addr) nodes
-names_here nodes o (Local segments) is = refl
-names_here nodes o (Foreign text) is = absurd (not_foreign nodes o (cse_named text nodes) is)
-names_here nodes o OtherProvider is = absurd (not_unknown is)
-
--- so what stays gives what it gives at what it names
-pub stays_here : (e : EntityData) (request : RequestParts) (o : List ℕ) (addr : Addr) (route : Route) → claimed_originator e.home request ≡ o → route ≡ routed e.nodes o addr → route ≡ to.Local → address_effect e request (Ok addr) ≡ as_done (spot_effect e request (named_here (Ok addr) e.nodes))
-stays_here e request o addr route by is local =
-    by_route e request o addr route by is
-    ∙ ap (route_effect e request (segments_of addr)) local
-    ∙ ap (λ spot. as_done (spot_effect e request spot)) (names_here e.nodes o addr (sym is ∙ local))
+-- what stays here gives what it gives at what its segments name
+pub stays_here : (e : EntityData) (request : RequestParts) (addr : Addr) (segments : List (List ℕ)) → addr ≡ Local segments → address_effect e request (Ok addr) ≡ as_done (spot_effect e request (spot_of segments e.nodes))
+stays_here e request addr segments is = ap (λ (a : Addr). address_effect e request (Ok a)) is
 
 -- what goes on leaves the entity as it is
 onward_stays : (e : EntityData) (request : RequestParts) (poa : Option (List ℕ)) → (onward_effect e request poa).after ≡ e

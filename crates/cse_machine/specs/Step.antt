@@ -1,5 +1,6 @@
 -- One event of a CSE (TS-0001, 10.1; TS-0004, 7.2).
-use Rattle.std.specs.Prelude.{◌≡◌, ◌⊎◌, ℕ, List, [], IsTrue}
+use Rattle.std.specs.Prelude.{◌≡◌, ◌⊎◌, ℕ, nat_lt, List, [], length, Bool, true, false, is_some}
+use Rattle.std.specs.Prelude.{IsTrue}
 use Rattle.std.specs.Option.{option_map_or}
 use Rattle.primitive_json.specs.declared.request.RequestParts.{RequestParts}
 use Rattle.addressing.specs.Laws.{spot_named}
@@ -69,3 +70,27 @@ Step reading Tick before (Forward poa onward) after = ⊥
 Step reading Tick before (Item given) after = ⊥
 Step reading Tick before Ticked after = after ≡ swept reading before
 Step reading Tick before (Starved done) after = IsUnswept reading before done after
+
+-- ---- what is taken
+
+-- the event was a request that was answered by a reply
+abbrev pub has_reply : Outcome → Bool
+has_reply (Done reply) = true
+has_reply (Forward poa onward) = false
+has_reply (Item given) = false
+has_reply Ticked = false
+has_reply (Starved done) = false
+
+-- fewer items stand in the outbox than before
+abbrev pub has_fewer_items : EntityData → EntityData → Bool
+has_fewer_items before after = nat_lt (length after.items) (length before.items)
+
+-- An event of which this came took an item of the outbox, where the expiry had left this entity: the
+-- next item was given away, or a poll was given one. A request that is answered by a reply leaves
+-- fewer items only so (TS-0001, 9.6.22).
+abbrev pub took : EntityData → Outcome → EntityData → Bool
+took before (Done reply) after = has_fewer_items before after
+took before (Forward poa onward) after = false
+took before (Item given) after = is_some given
+took before Ticked after = false
+took before (Starved done) after = false

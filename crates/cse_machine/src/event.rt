@@ -28,3 +28,10 @@ pub enum Outcome {
     /// fan-out that is 0.
     Starved { done: u32 },
 }
+
+/// What came of an event, and whether an item of the outbox was taken by it.
+#[derive(Drop)]
+pub struct ObservedStep {
+    pub outcome: Outcome,
+    pub took: bool,
+}

@@ -16,6 +16,9 @@
 //! goes on to it where the crate retarget knows a way: the outcome is where it goes and what is
 //! sent there, and no right is judged here. A content that asks for copies isn't admitted yet.
 //!
+//! `observe_step` tells besides whether the event took an item of the outbox (`took` of
+//! `specs/Step`): who keeps a journal has to know that of a poll.
+//!
 //! The laws of these definitions stand in guard_laws and machine_laws.
 //!
 //! ```text
@@ -31,5 +34,5 @@ mod event;
 mod judging;
 mod machine;
 
-pub use event::{Event, Outcome};
-pub use machine::step;
+pub use event::{Event, ObservedStep, Outcome};
+pub use machine::{observe_step, step};

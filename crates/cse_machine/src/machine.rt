@@ -1,12 +1,14 @@
 //! One event after another.
 ghost use Rattle.std.specs.Prelude.{◌≡◌, IfOk, IfSome, IsTrue, Ok, OnErr, Some, option_map};
-ghost use Rattle.std.specs.Prelude.{drop, option_and_then, IfErr};
+ghost use Rattle.std.specs.Prelude.{false, is_some};
+ghost use Rattle.std.specs.Prelude.{option_and_then, IfErr};
 ghost use Rattle.m2m_names.specs.Name.{is_originator};
 ghost use Rattle.tree_model.specs.Tree.{has};
 ghost use Rattle.addressing.specs.Addresses.{GivesAddress, address_of};
 ghost use Rattle.addressing.specs.Laws.{spot_named};
-ghost use Rattle.addressing.specs.Names.{segments_of};
+ghost use Rattle.addressing.specs.Names.{IsLocal};
 ghost use Rattle.addressing.specs.Short.{short_of};
+ghost use Rattle.addressing.specs.declared.addr.Addr.TheVariants.{Local};
 ghost use Rattle.addressing.specs.declared.spot.Spot.TheVariants.{Poll};
 ghost use Rattle.entity_model.specs.Places.{ComesTo, first_fault, refusal};
 ghost use Rattle.request_rules.specs.Judged.{Judges};
@@ -22,11 +24,13 @@ ghost use Rattle.cse_machine.specs.Answer.{poll_refusal, spot_effect};
 ghost use Rattle.cse_machine.specs.Answer as spec;
 ghost use Rattle.cse_machine.specs.Heard.{IsHeardAs};
 ghost use Rattle.cse_machine.specs.Step.{IsAnswered, Step, heard_members};
-ghost use Rattle.cse_machine.specs.declared.event.Outcome.TheVariants.{Done};
+ghost use Rattle.cse_machine.specs.Step as steps;
+ghost use Rattle.cse_machine.specs.declared.event.Outcome.TheVariants.{Done, Item};
+ghost use Rattle.entity_model.specs.Entity.{next_note, swept, without_next};
 
-use crate::event::{Event, Outcome};
+use crate::event::{Event, ObservedStep, Outcome};
 use crate::judging::{has_answer, is_blocking, is_in_time, is_served, said_originator};
-use addressing::{Addr, AddrFault, Segments, Spot, name_spot, parse, short_fr};
+use addressing::{Addr, AddrFault, Segments, Spot, name_segments, parse, short_fr};
 use entity_model::{Entity, refuse, reply_to, sweep, take_next};
 use group_fanout::{Starved, fan, operate};
 use m2m_names::{Op, Rsc};
@@ -45,13 +49,72 @@ use tree_model::Tree;
 pub fn step<T: Tree>(alloc: Global, entity: &mut Entity<T>, reading: u64, event: &Event) -> Outcome
     ensures { Step reading event.now entity.old result entity.new }
 {
+    observe_step(alloc, entity, reading, event).outcome
+}
+
+/// Takes one event as `step` does, and tells besides whether it took an item of the outbox: the
+/// next one, or the one that a poll was given.
+pub fn observe_step<T: Tree>(
+    alloc: Global,
+    entity: &mut Entity<T>,
+    reading: u64,
+    event: &Event,
+) -> ObservedStep
+    ensures step { Step reading event.now entity.old result.outcome entity.new }
+    ensures took { result.took ≡ steps.took (swept reading entity.old) result.outcome entity.new }
+{
     if let Err(_) = sweep(alloc, entity, reading) {
-        return Outcome::Starved { done: 0 };
+        return untaken(Outcome::Starved { done: 0 });
     }
     match event {
-        Event::Ask(request) => ask(alloc, entity, request),
-        Event::Take => Outcome::Item(take_next(entity)),
-        Event::Tick => Outcome::Ticked,
+        Event::Ask(request) => observe_ask(alloc, entity, request),
+        Event::Take => observe_take(entity),
+        Event::Tick => untaken(Outcome::Ticked),
+    }
+}
+
+// Of an event that took nothing.
+fn untaken(outcome: Outcome) -> ObservedStep
+    ensures { result ≡ record { outcome = outcome; took = false } }
+{
+    ObservedStep {
+        outcome,
+        took: false,
+    }
+}
+
+// What a request gives on the entity as it stands, and whether it took an item.
+fn observe_ask<T: Tree>(alloc: Global, entity: &mut Entity<T>, request: &Request) -> ObservedStep
+    ensures step { IsAnswered entity.old request.now result.outcome entity.new }
+    ensures took { result.took ≡ steps.took entity.old result.outcome entity.new }
+{
+    let items = entity.outbox.len();
+    let outcome = ask(alloc, entity, request);
+    let took = has_reply(&outcome) && entity.outbox.len() < items;
+    ObservedStep { outcome, took }
+}
+
+// Whether a request was answered by a reply.
+fn has_reply(outcome: &Outcome) -> bool
+    ensures { result ≡ steps.has_reply outcome.now }
+{
+    match outcome {
+        Outcome::Done(_) => true,
+        _ => false,
+    }
+}
+
+// The next item of the outbox, which is taken.
+fn observe_take<T: Tree>(entity: &mut Entity<T>) -> ObservedStep
+    ensures outcome { result.outcome ≡ Item (next_note entity.old) }
+    ensures took { result.took ≡ is_some (next_note entity.old) }
+    ensures after { entity.new ≡ without_next entity.old }
+{
+    let given = take_next(entity);
+    let took = given.is_some();
+    ObservedStep {
+        outcome: Outcome::Item(given),
+        took,
     }
 }
 
@@ -168,7 +231,7 @@ fn judge_address<'a, T: Tree>(
 
 // ---- where it goes
 
-// What it gives by where it goes: here, or to another CSE.
+// What it gives by where its address leads: here, or elsewhere.
 #[tactic(auto, using(group_fanout::proofs::FanLemmas::none_cut))]
 fn lead<T: Tree>(
     alloc: Global,
@@ -185,11 +248,34 @@ fn lead<T: Tree>(
     ensures cut { IfErr result (λ s. IsCutShortAt entity.old (served_members entity.old request.now
         (spot_named entity.old.home request.now.to entity.old.nodes)) s.done entity.new) }
 {
-    match route_of(&entity.tree, originator, addr) {
-        Route::Local => {
-            let spot = name_spot(&entity.tree, addr);
-            Ok(Outcome::Done(reach(alloc, entity, request, originator, addr, spot)?))
+    match addr {
+        Addr::Local(segments) => {
+            let spot = name_segments(&entity.tree, segments);
+            Ok(Outcome::Done(reach(alloc, entity, request, originator, segments, spot)?))
         }
+        Addr::Foreign(_) | Addr::OtherProvider => {
+            lead_away(alloc, entity, request, originator, addr)
+        }
+    }
+}
+
+// What it gives where its address leads elsewhere. Nothing is changed.
+fn lead_away<T: Tree>(
+    alloc: Global,
+    entity: &Entity<T>,
+    request: &Request,
+    originator: &[u8],
+    addr: &Addr,
+) -> Result<Outcome, Starved>
+    requires originator { IsTrue (is_originator originator.now) }
+    requires claimed { claimed_originator entity.now.home request.now ≡ originator.now }
+    requires away { IsLocal addr.now → ⊥ }
+    ensures gives { ComesToOutcome result entity.now
+        (address_effect entity.now request.now (Ok addr.now)) }
+    ensures none { IfErr result (λ s. s.done ≡ 0) }
+{
+    match route_of(&entity.tree, originator, addr) {
+        Route::Local => unreachable!(),
         Route::Unknown => turn_down(alloc, request, Rsc::NotFound),
         Route::NoHop | Route::NoPoint => turn_down(alloc, request, Rsc::NotReachable),
         Route::Forward(number) => go_on(alloc, entity, request, originator, number),
@@ -253,12 +339,12 @@ fn reach<T: Tree>(
     entity: &mut Entity<T>,
     request: &Request,
     originator: &[u8],
-    addr: &Addr,
+    segments: &Segments,
     spot: Option<Spot>,
 ) -> Result<Reply, Starved>
     requires originator { IsTrue (is_originator originator.now) }
     requires claimed { claimed_originator entity.old.home request.now ≡ originator.now }
-    requires addressed { address_of entity.old.home request.now.to ≡ Ok addr.now }
+    requires addressed { address_of entity.old.home request.now.to ≡ Ok (Local segments.now) }
     requires named { spot ≡ spot_named entity.old.home request.now.to entity.old.nodes }
     ensures gives { ComesTo result entity.new (spot_effect entity.old request.now spot) }
     ensures cut { IfErr result (λ s.
@@ -267,7 +353,7 @@ fn reach<T: Tree>(
     match spot {
         Some(Spot::Resource(number)) => { Ok(operate(alloc, entity, request, originator, number)?) }
         Some(Spot::Fan { group, rest }) => {
-            reach_members(alloc, entity, request, originator, addr, group, rest)
+            reach_members(alloc, entity, request, originator, segments, group, rest)
         }
         Some(Spot::Poll(channel)) => {
             Ok(reach_poll(alloc, entity, request, originator, channel)?)
@@ -284,30 +370,20 @@ fn reach_members<T: Tree>(
     entity: &mut Entity<T>,
     request: &Request,
     originator: &[u8],
-    addr: &Addr,
+    segments: &Segments,
     group: u64,
     place: u64,
 ) -> Result<Reply, Starved>
     requires originator { IsTrue (is_originator originator.now) }
     requires claimed { claimed_originator entity.old.home request.now ≡ originator.now }
-    requires addressed { address_of entity.old.home request.now.to ≡ Ok addr.now }
+    requires addressed { address_of entity.old.home request.now.to ≡ Ok (Local segments.now) }
     ensures gives { ComesTo result entity.new (fan_effect_at entity.old request.now
         (rest_of entity.old.home request.now.to place) group) }
     ensures cut { IfErr result (λ s. IsCutShortAt entity.old (fanned_at entity.old request.now
         (rest_of entity.old.home request.now.to place) group) s.done entity.new) }
 {
-    let rest = rest_of(alloc, addr, place)?;
+    let rest = segments.from_place(alloc, place)?;
     fan(alloc, entity, originator, request, group, &rest)
-}
-
-// The segments of a local address from a place on.
-fn rest_of<'a>(alloc: Global, addr: &Addr<'a>, place: u64) -> Result<Segments<'a>, OutOfMemory>
-    ensures { IfOk result (λ s. s ≡ drop place (segments_of addr.now)) }
-{
-    match addr {
-        Addr::Local(segments) => segments.from_place(alloc, place),
-        Addr::Foreign(_) | Addr::OtherProvider => Ok(Segments::of(Vec::new(alloc))),
-    }
 }
 
 // Whether the resource of a number is there.

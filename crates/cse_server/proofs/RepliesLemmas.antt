@@ -8,9 +8,9 @@ use Rattle.primitive_json.specs.declared.request.RequestParts.{RequestParts}
 use Rattle.cse_machine.specs.Answer.{starved}
 use Rattle.cse_machine.specs.declared.event.Outcome.{Outcome}
 use Rattle.cse_machine.specs.declared.event.Outcome.TheVariants.{Done, Forward, Item, Ticked, Starved}
-use Rattle.retarget.specs.Carries.{LinkTold}
-use Rattle.retarget.specs.Answers.{Carried}
-use Rattle.retarget.specs.Sending.{CarriesOne, answer_of}
+use Rattle.http_forwarding.specs.Carries.{LinkTold}
+use Rattle.http_forwarding.specs.Answers.{Carried}
+use Rattle.http_forwarding.specs.Sending.{CarriesOne, answer_of}
 use Rattle.http_client_binding.specs.declared.target.Aim.TheVariants.{Peer}
 use Rattle.cse_server.specs.Way.{RepliesOver, reply_of}
 use Rattle.cse_server.specs.Replies.{GivesReply, GivesReplies, GoesOn, IsAnsweredHere, RepliesOnward, WhatIsAnsweredHereIsNotCarried}

@@ -3,7 +3,7 @@ use Rattle.std.specs.Prelude.{◌≡◌, ◌≢◌, ◌≤◌, ℕ, ◌+◌, Lis
 use Rattle.std.specs.Io.KnownBytes.{Appends}
 use Rattle.m2m_io.specs.Counts.{Rose}
 use Rattle.m2m_io.specs.Told.{AppendsPrefix, Tells}
-pub use Rattle.retarget.specs.Carries.{Carries, LinkTold, has_failed, link_told}
+pub use Rattle.http_forwarding.specs.Carries.{Carries, LinkTold, has_failed, link_told}
 
 -- what a sink tells: the bytes that were written, and by how many puts
 pub record SinkTold : Type 0 where

@@ -6,9 +6,9 @@ use Rattle.m2m_io.specs.Link.{Carrying}
 use Rattle.primitive_json.specs.declared.reply.ReplyParts.{ReplyParts}
 use Rattle.primitive_json.specs.declared.request.RequestParts.{RequestParts}
 use Rattle.http_client_binding.specs.declared.target.Aim.TheVariants.{Peer}
-use Rattle.retarget.specs.Answers.{Carried}
-use Rattle.retarget.specs.Carries.{LinkTold}
-use Rattle.retarget.specs.Sending.{CarriesOne, IsFor, answer_of}
+use Rattle.http_forwarding.specs.Answers.{Carried}
+use Rattle.http_forwarding.specs.Carries.{LinkTold}
+use Rattle.http_forwarding.specs.Sending.{CarriesOne, IsFor, answer_of}
 use Rattle.cse_machine.specs.Answer.{starved}
 use Rattle.cse_machine.specs.declared.event.Outcome.{Outcome}
 use Rattle.cse_machine.specs.declared.event.Outcome.TheVariants.{Done, Forward, Item, Ticked}

@@ -19,7 +19,7 @@ use Rattle.cse_machine.specs.declared.event.Event.TheVariants.{Take}
 use Rattle.cse_machine.specs.declared.event.Outcome.{Outcome}
 use Rattle.cse_machine.specs.declared.event.Outcome.TheVariants.{Item}
 use Rattle.cse_server.specs.Outside.{Carries, LinkTold}
-use Rattle.retarget.specs.Sending.{exchange_for}
+use Rattle.http_forwarding.specs.Sending.{exchange_for}
 
 -- ---- one item
 

@@ -16,12 +16,13 @@ ghost use Rattle.cse_server.specs.Replies.{RepliesOnward};
 
 use cse_machine::Outcome;
 use http_binding::{ReplyRoom, echo_id, write_reply_text};
+use http_forwarding::carry;
 use http_frames::{Frame, PutFault};
 use m2m_io::{Connection, Link};
 use m2m_names::Rsc;
 use m2m_value::Text;
 use primitive_json::{Reply, ReplyParts, Request, RequestParts};
-use retarget::{Url, carry};
+use retarget::Url;
 use std::alloc::{AllocError as OutOfMemory, Global};
 
 /// A reply without content, with the identifier of the request where one is known.

@@ -4,7 +4,7 @@
 //! what is read of it is what stands on the disk: it syncs the file and its folder, and has the
 //! system drop the pages that it holds of it. Where there is no file of that name, it makes one
 //! with the bytes that it is given, under another name first, so that a crash leaves none or a
-//! whole one. A `DiskName` is the name of such a file, in whose place the crate kept_name puts
+//! whole one. A `DiskName` is the name of such a file, in whose place the crate kept_file puts
 //! another one, which gets the owner and the rights of the old one. A `NamedDiskFile` is a file
 //! with its name.
 //!

@@ -2,8 +2,7 @@
 ghost use Rattle.std.specs.Prelude.{[], ⊤};
 
 use crate::{DiskFile, DiskName, OpenFault};
-use kept_file::{Failed, FileFault, KeptFile, NamedFile};
-use kept_name::KeptName;
+use kept_file::{Failed, FileFault, KeptFile, KeptName, NamedFile};
 use std::alloc::Global;
 
 /// A file of the system under its name, in whose place another one can be put.

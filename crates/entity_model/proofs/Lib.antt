@@ -1,5 +1,6 @@
 pub mod RemovalLemmas
 pub mod NumberLemmas
+pub mod OrderLemmas
 pub mod SoundLemmas
 pub mod WrittenLemmas
 pub mod ExpiryLemmas

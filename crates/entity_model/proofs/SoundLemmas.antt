@@ -33,7 +33,7 @@ use Rattle.entity_model.specs.Entity.{EntityData, blank, last_reading, cut, even
 use Rattle.entity_model.specs.Opening.{opening_base, opening_policy, opening_nodes, opening}
 use Rattle.policy_eval.proofs.NameLemmas.{policy_number-id_of}
 use Rattle.entity_model.proofs.WaitingLemmas.{waiting_later, order_filtered, order_without, all_waiting, all_without}
-use Rattle.entity_model.specs.Sound.{is_known_id, has_known_ids, has_free_name, has_size, has_state_tag, is_shallow, is_within_limits, begins_with_base, cse_ids, are_distinct, has_one_channel, spares_first, greatest_count, is_waiting, do_not_fall, IsSoundEntity}
+use Rattle.entity_model.specs.Sound.{is_known_id, has_known_ids, has_free_name, has_size, has_state_tag, is_shallow, is_within_limits, keeps_order, begins_with_base, cse_ids, are_distinct, has_one_channel, spares_first, greatest_count, is_waiting, do_not_fall, IsSoundEntity}
 use Rattle.entity_model.proofs.RemovalLemmas.{staying_length}
 use Rattle.m2m_names.proofs.ListLemmas.{all_weaker}
 use Rattle.resource_model.proofs.HomeLemmas.{base_name_parts, home_parts}
@@ -188,6 +188,7 @@ pub record IsFramed (e : EntityData) : Type 0 where
   pub depth : list_all (is_shallow e.nodes) e.nodes ≡ true
   pub count : length e.nodes ≤ greatest_count
   pub kinds : list_all are_kinds e.nodes ≡ true
+  pub order : list_all keeps_order e.nodes ≡ true
   pub tags : list_all has_state_tag e.nodes ≡ true
   pub cses : are_distinct (cse_ids e.home e.nodes) ≡ true
   pub channels : list_all (has_one_channel e.nodes) e.nodes ≡ true
@@ -208,6 +209,7 @@ framed_from e sound = record {
   depth = sound.depth;
   count = sound.count;
   kinds = sound.kinds;
+  order = sound.order;
   tags = sound.tags;
   cses = sound.cses;
   channels = sound.channels;
@@ -229,6 +231,7 @@ sound_framed e framed limits due = record {
   depth = framed.depth;
   count = framed.count;
   kinds = framed.kinds;
+  order = framed.order;
   tags = framed.tags;
   cses = framed.cses;
   channels = framed.channels;
@@ -256,6 +259,7 @@ framed_left p e last items framed spared small waiting moments =
       depth = all_left p is_shallow e.nodes (shallow_left p e.nodes tree) framed.depth;
       count = omega arith;
       kinds = staying_all p are_kinds [] e.nodes framed.kinds;
+      order = staying_all p keeps_order [] e.nodes framed.order;
       tags = staying_all p has_state_tag [] e.nodes framed.tags;
       cses = cses_left p e.home e.nodes framed.cses;
       channels = all_left p has_one_channel e.nodes (channel_left p e.nodes) framed.channels;
@@ -311,6 +315,7 @@ sound_items e items numbered sound waiting moments =
       depth = framed.depth;
       count = framed.count;
       kinds = framed.kinds;
+      order = framed.order;
       tags = framed.tags;
       cses = framed.cses;
       channels = framed.channels;
@@ -374,6 +379,7 @@ sound_opening home reading is = record {
   depth = refl;
   count = omega arith;
   kinds = opening_kinds home (cut reading) (home_parts home is).admin;
+  order = refl;
   tags = refl;
   cses = refl;
   channels = refl;

@@ -35,7 +35,8 @@ use Rattle.tree_model.proofs.KeptLemmas.{KeepsStanding, is_well_formed-map, list
 use Rattle.tree_model.proofs.MarkLemmas.{exc_aside, due_below, other_kept}
 use Rattle.tree_model.proofs.TreeLemmas.{at-map, list_any-same, staying_unpicked}
 use Rattle.entity_model.specs.Entity.{EntityData}
-use Rattle.entity_model.specs.Sound.{are_distinct, begins_with_base, has_free_name, has_known_ids, has_one_channel, has_size, has_state_tag, is_known_id, is_shallow, is_within_limits, spares_first, IsSoundEntity}
+use Rattle.entity_model.specs.Sound.{are_distinct, begins_with_base, has_free_name, has_known_ids, has_one_channel, has_size, has_state_tag, is_known_id, is_shallow, is_within_limits, keeps_order, spares_first, IsSoundEntity}
+use Rattle.entity_model.proofs.OrderLemmas.{order-with_value}
 use Rattle.entity_model.proofs.SoundLemmas.{base_parts, sound_framed, sound_removed, IsFramed}
 
 -- ---- what counts
@@ -270,6 +271,15 @@ module _ (drafts : List DraftParts) where
       let stays = or_parts (is_spent drafts r) (list_any (is_spent drafts) nodes) none in
       and_from _ _ (kind_kept r parts.0 stays.0) (kinds_kept nodes parts.1 stays.1)
 
+  -- ---- the order of attributes
+
+  stays_in_order : (r : ResourceData) → keeps_order r ≡ true → keeps_order (turned r) ≡ true
+  stays_in_order r held = by (left_of drafts r)
+    where
+      by : (o : Option ℕ) → keeps_order (option_map_or (λ left. recounted left r) o r) ≡ true
+      by None = held
+      by (Some left) = order-with_value Exc (number (pos left)) r.attrs held
+
   -- ---- soundness
 
   sound_lowered : (e : EntityData) → IsSoundEntity e → list_any (is_spent drafts) e.nodes ≡ false → IsSoundEntity (record e { nodes = map turned e.nodes })
@@ -287,6 +297,7 @@ module _ (drafts : List DraftParts) where
         depth = all_lowered (is_shallow e.nodes) (is_shallow (map turned e.nodes)) (shallow_kept e.nodes) e.nodes sound.depth;
         count = omega (arith, many, few);
         kinds = kinds_kept e.nodes sound.kinds none;
+        order = all_lowered keeps_order keeps_order stays_in_order e.nodes sound.order;
         tags = all_lowered has_state_tag has_state_tag (λ r held. kept_by has_state_tag (λ left s. rw (attr_kept St left s refl refl) refl) r ∙ held) e.nodes sound.tags;
         cses = ap (λ (ids : List (List ℕ)). are_distinct (own_cse_id e.home ∷ ids)) (cses_kept e.nodes) ∙ sound.cses;
         channels = all_lowered (has_one_channel e.nodes) (has_one_channel (map turned e.nodes)) (channel_kept e.nodes) e.nodes sound.channels;

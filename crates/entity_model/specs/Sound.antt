@@ -2,6 +2,7 @@
 use Rattle.std.specs.Prelude.{◌≡◌, ℕ, ◌≤◌, nat_le, nat_lt, Bool, true, false, not, ◌&&◌}
 use Rattle.std.specs.Prelude.{◌||◌, List, [], ◌∷◌, length, is_some}
 use Rattle.std.specs.Prelude.{option_and_then, IsTrue}
+use Rattle.std.specs.FinMap.Entries.{is_sorted}
 use Rattle.std.specs.List.{filter_map, list_all, list_any}
 use Rattle.std.specs.Option.{option_map_or}
 use Rattle.std.specs.Str.{bytes_eq}
@@ -10,7 +11,7 @@ use Rattle.m2m_names.specs.declared.types.Ty.TheVariants.{Container, ContentInst
 use Rattle.m2m_value.specs.Data.{Data}
 use Rattle.m2m_value.specs.Shapes.{largest_count}
 use Rattle.m2m_value.specs.View.{as_text}
-use Rattle.resource_model.specs.Attributes.{value_of}
+use Rattle.resource_model.specs.Attributes.{attr_cmp, value_of}
 use Rattle.resource_model.specs.Home.{HomeData, IsHome}
 use Rattle.resource_model.specs.Resource.{ResourceData, is_ty, cse_id}
 pub use Rattle.resource_model.specs.Resource.{has_free_name}
@@ -67,6 +68,13 @@ is_within_limits nodes r =
 -- a container counts its changes (TS-0001, 9.6.6)
 abbrev pub has_state_tag : ResourceData → Bool
 has_state_tag r = not (is_ty r.ty Container) || is_some (value_of St r.attrs)
+
+-- ---- the order of attributes
+
+-- The attributes of the resource stand in byte order of their short names, and so each stands once
+-- (TS-0004, 8.2.3).
+abbrev pub keeps_order : ResourceData → Bool
+keeps_order r = is_sorted attr_cmp r.attrs
 
 -- ---- who stands once
 
@@ -125,8 +133,9 @@ pub record IsSoundEntity (e : EntityData) : Type 0 where
   pub home : IsHome e.home
   pub depth : IsTrue (list_all (is_shallow e.nodes) e.nodes)
   pub count : length e.nodes ≤ greatest_count
-  -- each resource keeps attributes of its type, with values of their kinds
+  -- each resource keeps attributes of its type, with values of their kinds, in order
   pub kinds : IsTrue (list_all are_kinds e.nodes)
+  pub order : IsTrue (list_all keeps_order e.nodes)
   -- each container has its state tag
   pub tags : IsTrue (list_all has_state_tag e.nodes)
   -- CSE-IDs differ from each other and from the own one, and no resource has two polling channels

@@ -14,7 +14,7 @@ use Rattle.tree_model.proofs.GrowthLemmas.{tree_from_well_formed}
 use Rattle.attribute_rules.specs.Kinds.{are_kinds}
 use Rattle.policy_eval.specs.Rules.{ids_at}
 use Rattle.entity_model.specs.Entity.{EntityData, last_reading}
-use Rattle.entity_model.specs.Sound.{IsSoundEntity, begins_with_base, greatest_count, has_free_name, has_known_ids, has_size, has_state_tag, is_known_id, is_shallow, is_within_limits}
+use Rattle.entity_model.specs.Sound.{IsSoundEntity, begins_with_base, greatest_count, has_free_name, has_known_ids, has_size, has_state_tag, is_known_id, is_shallow, is_within_limits, keeps_order}
 use Rattle.entity_soundness.specs.Laws.{AreNumbered}
 use Rattle.entity_soundness.specs.Tested.{are_sound, do_follow, has_other_cse_id, is_formed, is_identified, is_located, is_sole_channel, is_sound}
 use Rattle.entity_soundness.proofs.ChannelLemmas.{all_one_channel, all_sole}
@@ -26,6 +26,7 @@ use Rattle.entity_soundness.proofs.FollowLemmas.{all_from, all_wait, follow_all,
 pub record IsFit (home : HomeData) (nodes : List ResourceData) (next last : ℕ) (r : ResourceData) : Type 0 where
   pub name : has_free_name r ≡ true
   pub kinds : are_kinds r ≡ true
+  pub order : keeps_order r ≡ true
   pub tag : has_state_tag r ≡ true
   pub size : has_size r ≡ true
   pub number : nat_lt r.number next ≡ true
@@ -40,8 +41,9 @@ fit_parts : (home : HomeData) (nodes : List ResourceData) (next last : ℕ) (r :
 fit_parts home nodes next last r h =
     let two = and_parts (is_formed r && is_identified home next r) (is_located nodes last r) h in
     let one = and_parts (is_formed r) (is_identified home next r) two.0 in
-    let f3 = and_parts (has_free_name r && are_kinds r && has_state_tag r) (has_size r) one.0 in
-    let f2 = and_parts (has_free_name r && are_kinds r) (has_state_tag r) f3.0 in
+    let f4 = and_parts (has_free_name r && are_kinds r && keeps_order r && has_state_tag r) (has_size r) one.0 in
+    let f3 = and_parts (has_free_name r && are_kinds r && keeps_order r) (has_state_tag r) f4.0 in
+    let f2 = and_parts (has_free_name r && are_kinds r) (keeps_order r) f3.0 in
     let f1 = and_parts (has_free_name r) (are_kinds r) f2.0 in
     let n2 = and_parts (nat_lt r.number next && has_known_ids next r) (has_other_cse_id home r) one.1 in
     let n1 = and_parts (nat_lt r.number next) (has_known_ids next r) n2.0 in
@@ -51,8 +53,9 @@ fit_parts home nodes next last r h =
     record {
       name = f1.0;
       kinds = f1.1;
-      tag = f2.1;
-      size = f3.1;
+      order = f2.1;
+      tag = f3.1;
+      size = f4.1;
       number = n1.0;
       ids = n1.1;
       other = n2.1;
@@ -112,6 +115,7 @@ module _ (e : EntityData) where
         depth = each (is_shallow e.nodes) (λ r f. f.shallow) all;
         count = leb-true _ _ two.1;
         kinds = each are_kinds (λ r f. f.kinds) all;
+        order = each keeps_order (λ r f. f.order) all;
         tags = each has_state_tag (λ r f. f.tag) all;
         cses = cses_from e.home e.nodes tree (each (has_other_cse_id e.home) (λ r f. f.other) all);
         channels = all_one_channel e.nodes tree (each (is_sole_channel e.nodes) (λ r f. f.sole) all);
@@ -126,8 +130,9 @@ module _ (e : EntityData) where
   module _ (s : IsSoundEntity e) where
     formed : list_all is_formed e.nodes ≡ true
     formed =
-        all_both (λ r. has_free_name r && are_kinds r && has_state_tag r) has_size e.nodes
-        (all_both (λ r. has_free_name r && are_kinds r) has_state_tag e.nodes (all_both has_free_name are_kinds e.nodes s.names s.kinds) s.tags) s.sizes
+        all_both (λ r. has_free_name r && are_kinds r && keeps_order r && has_state_tag r) has_size e.nodes
+        (all_both (λ r. has_free_name r && are_kinds r && keeps_order r) has_state_tag e.nodes
+        (all_both (λ r. has_free_name r && are_kinds r) keeps_order e.nodes (all_both has_free_name are_kinds e.nodes s.names s.kinds) s.order) s.tags) s.sizes
 
     numbered : list_all (is_identified e.home e.next) e.nodes ≡ true
     numbered =

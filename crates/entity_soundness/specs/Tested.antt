@@ -17,7 +17,7 @@ use Rattle.notify_outbox.specs.declared.item.Item.{Item}
 use Rattle.entity_model.specs.Entity.{last_reading}
 use Rattle.entity_model.specs.Sound.{begins_with_base, greatest_count, has_free_name, has_known_ids}
 use Rattle.entity_model.specs.Sound.{has_size, has_state_tag, is_shallow, is_waiting}
-use Rattle.entity_model.specs.Sound.{is_within_limits}
+use Rattle.entity_model.specs.Sound.{is_within_limits, keeps_order}
 
 -- ---- a resource
 
@@ -46,7 +46,7 @@ is_sole_channel nodes r =
 
 -- it keeps what its type keeps
 abbrev pub is_formed : ResourceData → Bool
-is_formed r = has_free_name r && are_kinds r && has_state_tag r && has_size r
+is_formed r = has_free_name r && are_kinds r && keeps_order r && has_state_tag r && has_size r
 
 -- its numbers were given out, and its CSE-ID isn't the own one
 abbrev pub is_identified : HomeData → ℕ → ResourceData → Bool

@@ -165,12 +165,21 @@ fn is_sole_channel<T: Tree>(tree: &T, resource: &Resource) -> bool
     }
 }
 
+/// Whether its attributes stand in order. They always do, by the type that holds them.
+fn keeps_order(resource: &Resource) -> bool
+    ensures { result ≡ sound.keeps_order resource.now }
+{
+    let _rows = resource.attrs().entries();
+    true
+}
+
 /// Whether it keeps what its type keeps.
 fn is_formed(resource: &Resource) -> bool
     ensures { result ≡ spec.is_formed resource.now }
 {
     has_free_name(resource)
         && keeps_kinds(resource)
+        && keeps_order(resource)
         && has_state_tag(resource)
         && has_size(resource)
 }

@@ -17,7 +17,7 @@ ghost use Rattle.group_fanout.specs.Rights.{claimed_originator};
 use crate::gathering::{gathered_one, reply_of};
 use crate::members::member_addresses;
 use crate::operating::operate;
-use addressing::{Addr, AddrFault, Segments, Spot, name_spot, parse};
+use addressing::{Addr, AddrFault, Segments, Spot, name_segments, parse};
 use entity_model::{Entity, refuse};
 use m2m_names::{Op, Rsc};
 use m2m_value::{Text, Val};
@@ -294,8 +294,8 @@ fn ask_at<T: Tree>(
     ensures err { OnErr result (entity.new ≡ entity.old) }
 {
     match addr {
-        Addr::Local(_) => {
-            let spot = name_spot(&entity.tree, addr);
+        Addr::Local(segments) => {
+            let spot = name_segments(&entity.tree, segments);
             ask_spot(alloc, entity, originator, request, spot)
         }
         Addr::Foreign(_) => refuse(alloc, request, Rsc::NotReachable),

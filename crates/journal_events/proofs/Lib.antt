@@ -1,2 +1,4 @@
+pub mod KeptLemmas
 pub mod LossLemmas
 pub mod MachineLemmas
+pub mod QuietLemmas

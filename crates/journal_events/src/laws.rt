@@ -1,4 +1,6 @@
 //! The laws of an entity that is kept.
+ghost use Rattle.journal_events.specs.Kept.{SweepsThatTakeNothingChangeNothing};
+ghost use Rattle.journal_events.specs.Kept.{WhatIsKeptMakesTheEntity};
 ghost use Rattle.journal_events.specs.Losses.{AnItemStaysUntilItWasSent, WhatIsToldStays};
 ghost use Rattle.journal_events.specs.Machine.{EachEventIsOneOfTheMachine};
 
@@ -17,4 +19,16 @@ pub fn what_is_told_stays()
 /// taken; and else what is due goes.
 pub fn each_event_is_one_of_the_machine()
     ensures { EachEventIsOneOfTheMachine }
+{}
+
+/// What is kept of a history is a history by itself, from the same opening entity. It leaves the
+/// entity that the whole history leaves, but for the moment, which may be an earlier one.
+pub fn what_is_kept_makes_the_entity()
+    ensures { WhatIsKeptMakesTheEntity }
+{}
+
+/// An expiry that leaves a sound entity as many resources and as many items as it had leaves it as
+/// it was, but for the moment.
+pub fn a_sweep_that_takes_nothing_changes_nothing()
+    ensures { SweepsThatTakeNothingChangeNothing }
 {}

@@ -7,6 +7,12 @@
 //! If it isn't the next item any more, as it has waited too long or its channel was made, `Sent`
 //! takes nothing, and who sends looks again (specs/Steps).
 //!
+//! Laws say which events of the machine have to be kept, so that playing them again makes the
+//! entity that all of them made. An event is kept with the moment that the entity has after it, and
+//! not with the reading of the clock, which may lie before an earlier one. An event is left out only
+//! where it changed nothing but the moment (specs/Kept). No program calls these laws; the proofs of
+//! journaled_entity stand on them.
+//!
 //! ```text
 //! KeptEvent::Next             // KeptOutcome::Next(Some(item)): send item.note
 //! KeptEvent::Sent(item.number) // KeptOutcome::Taken
@@ -19,5 +25,6 @@ mod laws;
 
 pub use event::{KeptEvent, KeptOutcome};
 pub use laws::{
-    an_item_stays_until_it_was_sent, each_event_is_one_of_the_machine, what_is_told_stays,
+    a_sweep_that_takes_nothing_changes_nothing, an_item_stays_until_it_was_sent,
+    each_event_is_one_of_the_machine, what_is_kept_makes_the_entity, what_is_told_stays,
 };

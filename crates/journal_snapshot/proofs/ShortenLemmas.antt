@@ -3,9 +3,8 @@ use Rattle.std.proofs.Common.{◌≡◌, ◌≢◌, ◌⊎◌, inl, inr, ⊎_eli
 use Rattle.std.specs.declared.result.Result.{Result}
 use Rattle.resource_model.specs.Home.{HomeData}
 use Rattle.entity_model.specs.Entity.{EntityData}
-use Rattle.kept_file.specs.Crashes.{LeavesOnly, LeavesThis}
+use Rattle.kept_file.specs.Crashes.{LeavesOnly, LeavesThis, Replaces}
 use Rattle.kept_file.proofs.MomentLemmas.{leaves_wider, starts}
-use Rattle.kept_name.specs.Places.{Renames}
 use Rattle.journal_file.specs.Gates.{KeepsText, at_rest}
 use Rattle.journal_lines.specs.declared.deed.Dated.{Dated}
 use Rattle.journal_opening.specs.Journals.{IsJournalOf, Makes, made_of}
@@ -32,10 +31,10 @@ opened_makes home base deeds text bytes len e journal keeps opens =
 
 module _ {N : Type 0} (seen : N → List ℕ) (may_leave : N → List ℕ → Type 0) (moment : N → ℕ) (left_since : N → ℕ → List ℕ → Type 0) (old new : N) where
   -- a file with these bytes was put there
-  pub put_leaves : (e : EntityData) (bytes : List ℕ) → IsSnapshot e bytes → LeavesOnly moment left_since old new (Renames bytes (seen old))
+  pub put_leaves : (e : EntityData) (bytes : List ℕ) → IsSnapshot e bytes → LeavesOnly moment left_since old new (Replaces bytes (seen old))
       → LeavesOnly moment left_since old new (SnapshotOr (seen old) e)
   put_leaves e bytes is run =
-      leaves_wider moment left_since old new (Renames bytes (seen old)) (SnapshotOr (seen old) e)
+      leaves_wider moment left_since old new (Replaces bytes (seen old)) (SnapshotOr (seen old) e)
       (λ c. ⊎_elim (λ same. inl same) (λ put. inr (subst (IsSnapshot e) (sym put) is))) run
 
   -- each of them makes the same entity

@@ -18,5 +18,5 @@ mod shortening;
 
 pub use fault::ShorteningFault;
 pub use journal_opening::OpeningFault;
-pub use kept_name::KeptName;
+pub use kept_file::KeptName;
 pub use shortening::shorten;

@@ -1,6 +1,6 @@
 //! A file with the snapshot of an entity is put in the place of one that has a name.
 ghost use Rattle.std.specs.Prelude.{◌≡◌, ◌≢◌, ℕ, [], List, IfErr, OnOk};
-ghost use Rattle.kept_file.specs.Crashes.{LeavesOnly, LeavesThis};
+ghost use Rattle.kept_file.specs.Crashes.{LeavesOnly, LeavesThis, Replaces};
 ghost use Rattle.entity_model.specs.Entity.{EntityData};
 ghost use Rattle.journal_file.specs.Gates.{KeepsText};
 ghost use Rattle.journal_lines.specs.declared.deed.Dated.{Dated};
@@ -10,14 +10,12 @@ ghost use Rattle.journal_opening.specs.Snapshots.{KeepsMaking};
 ghost use Rattle.journal_opening.specs.declared.fault.OpeningFault.TheVariants.{Failed as failed};
 ghost use Rattle.journal_snapshot.specs.Shortening.{IsRefusedFor, IsUnput, LeavesSnapshot};
 ghost use Rattle.journal_snapshot.specs.Shortening.{SnapshotOr};
-ghost use Rattle.kept_name.specs.Places.{Renames};
 ghost use Rattle.m2m_io.specs.Counts.{CountsFault};
 
 use crate::fault::ShorteningFault;
 use entity_model::Entity;
 use journal_opening::{LineFault, play_file, snapshot_bytes};
-use kept_file::{Failed, KeptFile};
-use kept_name::{KeptName, put_in_place};
+use kept_file::{Failed, KeptFile, KeptName, put_in_place};
 use std::alloc::Global;
 use tree_model::{Home, Tree};
 
@@ -29,7 +27,7 @@ fn put_bytes<F: KeptFile + Drop, N: KeptName<F>>(
     requires { N.tells → LeavesThis (N.seen name.old) (N.may_leave name.old) }
     ensures named { N.tells → OnOk result (LeavesThis bytes.now (N.may_leave name.new)) }
     ensures any_moment { N.tells → LeavesOnly N.moment N.left_since name.old name.new
-        (Renames bytes.now (N.seen name.old)) }
+        (Replaces bytes.now (N.seen name.old)) }
     ensures fault { IfErr result (λ fault. fault ≡ ShorteningFault.Failed) }
 {
     let placed: Result<F, Failed> = put_in_place(name, bytes);

@@ -1,5 +1,5 @@
 -- What may not have changed more than an expiry does.
-use Rattle.std.proofs.Common.{◌≡◌, ◌⊎◌, inl, inr, ⊎_elim, ℕ, zero, suc, Bool, true, false, not, List, [], ◌∷◌, refl, sym, ◌∙◌, ap, subst, arith}
+use Rattle.std.proofs.Common.{◌≡◌, ◌⊎◌, inl, inr, ⊎_elim, ℕ, zero, suc, Bool, true, false, not, List, [], ◌∷◌, refl, sym, ◌∙◌, ap, subst, arith, length, ◌<◌}
 use Rattle.std.specs.Prelude.{◌&&◌, ◌||◌, Option, Some, None, find, option_map}
 use Rattle.std.proofs.lemmas.Bool.{cases_Bool, true≢false}
 use Rattle.std.proofs.lemmas.Bool.Decides.{Decides-ltb}
@@ -8,9 +8,10 @@ use Rattle.m2m_names.specs.StatusCodes.{is_success}
 use Rattle.m2m_names.specs.declared.operations.Op.{Op}
 use Rattle.m2m_names.specs.declared.operations.Op.TheVariants.{Create, Retrieve, Update, Delete, Notify}
 use Rattle.primitive_json.specs.Members.{retrieves}
+use Rattle.primitive_json.specs.declared.note.NoteParts.{NoteParts}
 use Rattle.primitive_json.specs.declared.reply.ReplyParts.{ReplyParts}
 use Rattle.primitive_json.specs.declared.request.RequestParts.{RequestParts}
-use Rattle.notify_outbox.specs.Items.{is_to_send}
+use Rattle.notify_outbox.specs.Items.{is_to_send, waits_for}
 use Rattle.notify_outbox.specs.Outbox.{without_first}
 use Rattle.notify_outbox.specs.declared.item.Item.{Item}
 use Rattle.entity_model.specs.Entity.{EntityData, swept, without_next}
@@ -23,11 +24,13 @@ use Rattle.cse_machine.specs.declared.event.Outcome.{Outcome}
 use Rattle.cse_machine.specs.declared.event.Outcome.TheVariants.{Done, Forward, Item as Given, Ticked, Starved}
 use Rattle.group_fanout.specs.Fan.{after_members, member_effect, requests_to, sent_to}
 use Rattle.group_fanout.specs.Operations.{operation_effect}
+use Rattle.retrieve_discover.specs.Polling.{first_waiting, without_waiting}
 use Rattle.guard_laws.proofs.GuardLemmas.{Came, comes}
 use Rattle.guard_laws.proofs.HistoryLemmas.{done_holds, done_keeps, onward_leaves, starved_alone}
 use Rattle.guard_laws.proofs.MemberLemmas.{of_member}
 use Rattle.guard_laws.proofs.WayLemmas.{member_addresses}
-use Rattle.journaled_entity.specs.Changes.{hands_on, is_cut_short, may_change, may_change_by}
+use Rattle.cse_machine.specs.Step.{has_fewer_items}
+use Rattle.journaled_entity.specs.Changes.{is_cut_short, may_change}
 
 -- ---- a Retrieve
 
@@ -38,9 +41,30 @@ retrieve_alone Update is = absurd (true≢false (sym is))
 retrieve_alone Delete is = absurd (true≢false (sym is))
 retrieve_alone Notify is = absurd (true≢false (sym is))
 
--- it leaves the entity as it was, or hands an item on
+-- ---- the first item that is such a one is taken
+
+fewer_behind : (p : Item → Bool) (items : List Item) (item : Item) → find p items ≡ Some item → length (without_first p items) < length items
+fewer_behind p [] item found = absurd (none-some item found)
+fewer_behind p (i ∷ items) item found = elim (cases_Bool (p i)) [
+  | inl t ↦ rw t (omega arith)
+  | inr f ↦
+      let rest : find p items ≡ Some item = (let is : find p (i ∷ items) ≡ find p items = rw f refl in sym is ∙ found) in
+      let less = fewer_behind p items item rest in
+      rw f (omega (arith, less))
+]
+
+some_mapped : {A B : Type 0} (f : A → B) (o : Option A) (b : B) → option_map f o ≡ Some b → (a : A) × (o ≡ Some a)
+some_mapped f None b is = absurd (none-some b is)
+some_mapped f (Some a) b is = (a, refl)
+
+fewer_waiting : (e : EntityData) (channel : ℕ) (note : NoteParts) → first_waiting channel e ≡ Some note → has_fewer_items e (without_waiting channel e) ≡ true
+fewer_waiting e channel note first =
+    let item = some_mapped (λ (i : Item). i.note) (find (waits_for channel) e.items) note first in
+    (Decides-ltb (length (without_first (waits_for channel) e.items)) (length e.items)).1 (fewer_behind (waits_for channel) e.items item.0 item.1)
+
+-- it leaves the entity as it was, or takes an item
 abbrev IsRead : EntityData → Effect → Type 0
-IsRead e effect = (effect.after ≡ e) ⊎ (hands_on effect.reply ≡ true)
+IsRead e effect = (effect.after ≡ e) ⊎ (has_fewer_items e effect.after ≡ true)
 
 module _ (request : RequestParts) (op : request.op ≡ Retrieve) where
   member_same : (e : EntityData) (address : List ℕ) → (member_effect e (sent_to request address)).after ≡ e
@@ -58,7 +82,7 @@ module _ (request : RequestParts) (op : request.op ≡ Retrieve) where
       comes e request (IsRead e)
       (λ fault other. inl refl)
       (λ way. inl (ap (λ (p : Op). (operation_effect p e request way.target).after) op))
-      (λ way. inr refl)
+      (λ way. inr (fewer_waiting e way.channel way.note way.first))
       (λ way. inl refl)
       (λ way. inl (members_same (member_addresses e request way.place way.group) e))
 
@@ -68,24 +92,24 @@ module _ (reading : ℕ) (before after : EntityData) where
   abbrev IsExpiry : Type 0
   IsExpiry = (after ≡ swept reading before) ⊎ (after ≡ before)
 
-  read_over : (reply : ReplyParts) → IsRead (swept reading before) (record { reply = reply; after = after }) → hands_on reply ≡ false → IsExpiry
+  read_over : (reply : ReplyParts) → IsRead (swept reading before) (record { reply = reply; after = after }) → has_fewer_items (swept reading before) after ≡ false → IsExpiry
   read_over reply read none =
       ⊎_elim (λ same. inl same) (λ on. absurd (true≢false (sym on ∙ none))) read
 
   -- one that was served
   served_over : (request : RequestParts) (reply : ReplyParts) → Step reading (Ask request) before (Done reply) after → is_success reply.rsc ≡ true
-      → may_change_by request.op reply ≡ false → IsExpiry
+      → may_change (swept reading before) (Ask request) (Done reply) after ≡ false → IsExpiry
   served_over request reply step served none = elim (cases_Bool (retrieves request.op)) [
     | inl reads ↦
-        let whole : may_change_by request.op reply ≡ hands_on reply = rw (served, reads) refl in
-        let quiet : hands_on reply ≡ false = sym whole ∙ none in
+        let whole : may_change (swept reading before) (Ask request) (Done reply) after ≡ has_fewer_items (swept reading before) after = rw (served, reads) refl in
+        let quiet : has_fewer_items (swept reading before) after ≡ false = sym whole ∙ none in
         read_over reply (done_holds (IsRead (swept reading before)) reading request before after reply (read request (retrieve_alone request.op reads) (swept reading before)) step) quiet
     | inr other ↦
-        let yes : may_change_by request.op reply ≡ true = rw (served, other) refl in
+        let yes : may_change (swept reading before) (Ask request) (Done reply) after ≡ true = rw (served, other) refl in
         absurd (true≢false (sym yes ∙ none))
   ]
 
-  done_over : (request : RequestParts) (reply : ReplyParts) → Step reading (Ask request) before (Done reply) after → may_change_by request.op reply ≡ false → IsExpiry
+  done_over : (request : RequestParts) (reply : ReplyParts) → Step reading (Ask request) before (Done reply) after → may_change (swept reading before) (Ask request) (Done reply) after ≡ false → IsExpiry
   done_over request reply step none = elim (cases_Bool (is_success reply.rsc)) [
     | inl served ↦ served_over request reply step served none
     | inr refused ↦ inl ((done_keeps reading request before after reply step).unserved refused)
@@ -114,7 +138,7 @@ none_taken e none =
     (none_to_take (is_to_send e.nodes) e.items (none_mapped (λ (i : Item). i.note) (find (is_to_send e.nodes) e.items) none))
 
 pub expiry_alone : (reading : ℕ) (event : Event) (outcome : Outcome) (before after : EntityData)
-    → Step reading event before outcome after → is_cut_short outcome ≡ false → may_change event outcome ≡ false
+    → Step reading event before outcome after → is_cut_short outcome ≡ false → may_change (swept reading before) event outcome after ≡ false
     → (after ≡ swept reading before) ⊎ (after ≡ before)
 expiry_alone reading (Ask request) (Done reply) before after step short none = done_over reading before after request reply step none
 expiry_alone reading (Ask request) (Forward poa onward) before after step short none = inl (onward_leaves reading request before after poa onward step)

@@ -6,7 +6,7 @@ use Rattle.entity_model.specs.Entity.{EntityData}
 use Rattle.journal_events.specs.Steps.{KeptEntityStep}
 use Rattle.journal_events.specs.declared.event.KeptOutcome.{KeptOutcome}
 use Rattle.journal_file.specs.Gates.{KeepsText}
-use Rattle.journal_laws.specs.Kept.{ChangesTheMomentAlone}
+use Rattle.journal_events.specs.Kept.{ChangesTheMomentAlone}
 use Rattle.journal_opening.specs.Opening.{OpensAs}
 use Rattle.journal_opening.proofs.ReadingLemmas.{journal_opens}
 use Rattle.kept_desk.specs.Kept.{HasSettled, MayGive}

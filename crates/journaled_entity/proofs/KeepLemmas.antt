@@ -18,9 +18,9 @@ use Rattle.journal_events.specs.Steps.{OnlyExpires}
 use Rattle.journal_lines.specs.Lines.{IsReadBack, deed_at, lines_of, moment_bound}
 use Rattle.journal_lines.specs.declared.deed.Deed.{Deed}
 use Rattle.journal_lines.specs.declared.deed.Deed.TheVariants as deeds
-use Rattle.journal_laws.specs.Kept.{ChangesTheMomentAlone, at_moment}
-use Rattle.journal_laws.proofs.KeptLemmas.{swept_again}
-use Rattle.journal_laws.proofs.QuietLemmas.{quiet}
+use Rattle.journal_events.specs.Kept.{ChangesTheMomentAlone, at_moment}
+use Rattle.journal_events.proofs.KeptLemmas.{swept_again}
+use Rattle.journal_events.proofs.QuietLemmas.{quiet}
 use Rattle.journal_opening.specs.Journals.{Makes, done_at, event_deed, made_of}
 use Rattle.journal_opening.proofs.JournalLemmas.{deed_alone_is_batch, journal_grows, snapshot_opens}
 use Rattle.kept_object.specs.Records.{IsKeptAtRest, Records}
@@ -135,7 +135,7 @@ snapshot_keeps e bytes is = record {
 
 -- the deed of an event that changed something is the event
 own_deed : (reading moment : ℕ) (event : Event) (outcome : Outcome) (before after : EntityData) → swept moment before ≡ swept reading before
-    → Step reading event before outcome after → may_change event outcome ≡ true → done_at moment (event_deed event) before ≡ after
+    → Step reading event before outcome after → may_change (swept reading before) event outcome after ≡ true → done_at moment (event_deed event) before ≡ after
 own_deed reading moment (events.Ask request) (Done reply) before after same step may = ap (λ (x : EntityData). (effect_of x request).after) same ∙ sym step.1
 own_deed reading moment (events.Ask request) (Forward poa onward) before after same step may = absurd (true≢false (sym may))
 own_deed reading moment (events.Ask request) (Item given) before after same step may = absurd step
@@ -150,7 +150,7 @@ own_deed reading moment events.Tick outcome before after same step may = absurd 
 
 -- one that changed something, written down as itself
 pub own_recorded : (reading moment : ℕ) (event : Event) (outcome : Outcome) (before after : EntityData) (lines now : List ℕ) → IsSoundEntity before
-    → Step reading event before outcome after → may_change event outcome ≡ true → moment ≡ event_moment before.last reading → moment < moment_bound
+    → Step reading event before outcome after → may_change (swept reading before) event outcome after ≡ true → moment ≡ event_moment before.last reading → moment < moment_bound
     → IsReadBack (event_deed event) → now ≡ lines ++ lines_of moment (event_deed event) → Records KeepsEntity before lines after now
 own_recorded reading moment event outcome before after lines now sound step may is small read written =
     let same = swept_then reading moment before sound.last is in
@@ -166,7 +166,7 @@ none_differ e = grind arith
 
 -- one that changed no more than an expiry does, written down as an expiry where something came or went by it
 pub expiry_recorded : (reading moment : ℕ) (event : Event) (outcome : Outcome) (before after : EntityData) (lines now : List ℕ) → IsSoundEntity before
-    → Step reading event before outcome after → is_cut_short outcome ≡ false → may_change event outcome ≡ false
+    → Step reading event before outcome after → is_cut_short outcome ≡ false → may_change (swept reading before) event outcome after ≡ false
     → moment ≡ event_moment before.last reading → moment < moment_bound
     → (differs before after ≡ false → now ≡ lines) → (differs before after ≡ true → now ≡ lines ++ lines_of moment deeds.Tick)
     → Records KeepsEntity before lines after now

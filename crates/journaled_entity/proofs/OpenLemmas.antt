@@ -6,7 +6,7 @@ use Rattle.entity_model.specs.Entity.{EntityData}
 use Rattle.kept_file.specs.Crashes.{LeavesOnly, LeavesThis}
 use Rattle.journal_file.specs.Gates.{IsSettled, KeepsText, at_rest, text_of}
 use Rattle.journal_file.specs.declared.journal.Journal.{Journal}
-use Rattle.journal_laws.specs.Kept.{ChangesTheMomentAlone}
+use Rattle.journal_events.specs.Kept.{ChangesTheMomentAlone}
 use Rattle.journal_opening.specs.Journals.{Makes}
 use Rattle.journal_opening.specs.Opening.{OpensAs, StaysAsItWas}
 use Rattle.journal_opening.proofs.HomeLemmas.{made_at_home}

@@ -16,7 +16,7 @@ use Rattle.journal_events.specs.declared.event.KeptEvent.TheVariants as events
 use Rattle.journal_events.specs.declared.event.KeptOutcome.{KeptOutcome}
 use Rattle.journal_events.specs.declared.event.KeptOutcome.TheVariants as outcomes
 use Rattle.journal_events.proofs.LossLemmas.{ticked}
-use Rattle.journal_laws.specs.Kept.{ChangesTheMomentAlone}
+use Rattle.journal_events.specs.Kept.{ChangesTheMomentAlone}
 use Rattle.journal_lines.specs.Lines.{lines_of, moment_bound}
 use Rattle.journal_lines.specs.declared.deed.Deed.TheVariants as deeds
 use Rattle.journal_opening.specs.Journals.{done_at}
@@ -37,7 +37,7 @@ taken_sent number e next = ap (λ (b : Bool). if b then without_next e else e) n
 -- ---- what may not have changed more than an expiry does
 
 pub kept_expiry_alone : (reading : ℕ) (event : KeptEvent) (outcome : KeptOutcome) (before after : EntityData)
-    → KeptEntityStep reading event before outcome after → is_kept_short outcome ≡ false → may_change_kept reading before event outcome ≡ false
+    → KeptEntityStep reading event before outcome after → is_kept_short outcome ≡ false → may_change_kept reading before event outcome after ≡ false
     → (after ≡ swept reading before) ⊎ (after ≡ before)
 kept_expiry_alone reading (events.OfMachine asked) (outcomes.OfMachine came) before after step short none = expiry_alone reading asked came before after step short none
 kept_expiry_alone reading (events.OfMachine asked) (outcomes.Next given) before after step short none = absurd step

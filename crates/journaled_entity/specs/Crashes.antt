@@ -12,7 +12,7 @@ use Rattle.notify_outbox.specs.declared.item.Item.{Item}
 use Rattle.entity_model.specs.Entity.{EntityData}
 use Rattle.journal_events.specs.Steps.{KeptEntityStep}
 use Rattle.journal_events.specs.declared.event.KeptOutcome.{KeptOutcome}
-use Rattle.journal_laws.specs.Kept.{ChangesTheMomentAlone}
+use Rattle.journal_events.specs.Kept.{ChangesTheMomentAlone}
 use Rattle.journal_opening.specs.Opening.{IsOfMachine, IsRefused, OpensAs}
 use Rattle.journal_opening.specs.declared.fault.OpeningFault.{OpeningFault}
 use Rattle.journaled_entity.specs.Keeping.{KeepsEntity}

@@ -1,7 +1,7 @@
 -- Which texts keep an entity.
 use Rattle.std.specs.Prelude.{ℕ, List}
 use Rattle.entity_model.specs.Entity.{EntityData}
-use Rattle.journal_laws.specs.Kept.{ChangesTheMomentAlone}
+use Rattle.journal_events.specs.Kept.{ChangesTheMomentAlone}
 use Rattle.journal_opening.specs.Journals.{Makes}
 
 -- The text is the journal of the entity's home, and makes the entity, but for its moment, which may

@@ -12,19 +12,14 @@ use journal_lines::{LineFault, push_request, push_take, push_tick};
 use primitive_json::{Request, has_form, retrieves};
 use std::alloc::Global;
 
-/// Whether the request is a poll, if it is a Retrieve that is served: its address ends as that of a
-/// poll point.
-fn may_poll(request: &Request) -> bool {
-    matches!(request.parts().to.entries(), [.., b'p', b'c', b'u'])
+/// Whether the lines of the request are made ready before it is done. They aren't for a Retrieve
+/// whose address is that of no poll point, which takes nothing.
+fn is_made_ready(request: &Request) -> bool {
+    !retrieves(request.parts().op) || matches!(request.parts().to.entries(), [.., b'p', b'c', b'u'])
 }
 
-/// Whether the request may change something where it is served.
-fn is_to_be_written(request: &Request) -> bool {
-    !retrieves(request.parts().op) || may_poll(request)
-}
-
-/// Appends the lines of a request, unless it changes nothing. One that has form and can't be kept
-/// is a fault.
+/// Appends the lines of a request, where they are made ready. One that has form and can't be kept is
+/// a fault.
 fn push_ask(
     alloc: Global,
     lines: &mut Vec<u8>,
@@ -37,7 +32,7 @@ fn push_ask(
     ensures readable { IfOk result (λ own. own ≡ true → IsReadBack (Ask request.now)) }
     ensures err { OnErr result (lines.new.items ≡ lines.old.items) }
 {
-    if !is_to_be_written(request) {
+    if !is_made_ready(request) {
         return Ok(false);
     }
     match push_request(alloc, lines, moment, request) {

@@ -3,6 +3,7 @@ ghost use Rattle.std.specs.Prelude.{◌≡◌, ◌<◌, ◌++◌, List, ℕ, len
 ghost use Rattle.std.specs.Prelude.{false};
 ghost use Rattle.entity_model.specs.Entity.{EntityData, event_moment, swept};
 ghost use Rattle.entity_model.specs.Sound.{IsSoundEntity};
+ghost use Rattle.cse_machine.specs.Step as steps;
 ghost use Rattle.cse_machine.specs.Step.{Step};
 ghost use Rattle.cse_machine.specs.declared.event.Event.TheVariants as events;
 ghost use Rattle.cse_machine.specs.declared.event.Outcome.TheVariants.{Starved};
@@ -21,7 +22,7 @@ ghost use Rattle.journaled_entity.specs.Written.{pushed};
 use crate::changes::may_change;
 use crate::lines::{push_event, push_expiry, push_taking};
 use crate::sending::{copied_next, take_numbered};
-use cse_machine::{Event, Outcome, step};
+use cse_machine::{Event, ObservedStep, Outcome, observe_step};
 use entity_model::{Entity, event_moment};
 use journal_events::{KeptEvent, KeptOutcome};
 use journal_opening::snapshot_bytes;
@@ -73,16 +74,17 @@ fn advance<T: Tree>(
     entity: &mut Entity<T>,
     reading: u64,
     event: &Event,
-) -> (Outcome, bool)
-    ensures step { Step reading event.now entity.old result.0 entity.new }
+) -> (ObservedStep, bool)
+    ensures step { Step reading event.now entity.old result.0.outcome entity.new }
+    ensures took { result.0.took ≡ steps.took (swept reading entity.old) result.0.outcome entity.new }
     ensures differs { result.1 ≡ differs entity.old entity.new }
     ensures sound { IsSoundEntity entity.old }
 {
     let (nodes, items) = counts(entity);
-    let outcome = step(alloc, entity, reading, event);
+    let observed = observe_step(alloc, entity, reading, event);
     let (nodes_now, items_now) = counts(entity);
     let differs = nodes_now != nodes || items_now != items;
-    (outcome, differs)
+    (observed, differs)
 }
 
 /// Whether memory ran out when members of a fan-out had been served.
@@ -144,8 +146,9 @@ impl<T: Tree> Journaled<T> {
     }
 
     /// Takes a step of the machine, and tells whether resources or items came or went by it.
-    fn advance(&mut self, reading: u64, event: &Event) -> (Outcome, bool)
-        ensures step { Step reading event.now self.old result.0 self.new }
+    fn advance(&mut self, reading: u64, event: &Event) -> (ObservedStep, bool)
+        ensures step { Step reading event.now self.old result.0.outcome self.new }
+        ensures took { result.0.took ≡ steps.took (swept reading self.old) result.0.outcome self.new }
         ensures differs { result.1 ≡ differs self.old self.new }
         ensures sound { IsSoundEntity self.old }
     {
@@ -168,16 +171,16 @@ impl<T: Tree> Journaled<T> {
         ensures sparing { IfSome result
             (λ _. differs self.old self.new ≡ false → lines.new.items ≡ lines.old.items) }
     {
-        let (outcome, differs) = self.advance(reading, event);
-        if is_cut_short(&outcome) {
+        let (observed, differs) = self.advance(reading, event);
+        if is_cut_short(&observed.outcome) {
             return None;
         }
-        let may = may_change(event, &outcome);
+        let may = may_change(event, &observed);
         if may {
             return None;
         }
         if push_expiry(self.alloc(), lines, moment, differs) {
-            Some(outcome)
+            Some(observed.outcome)
         } else {
             None
         }
@@ -202,19 +205,19 @@ impl<T: Tree> Journaled<T> {
             → IfSome result (λ _. Records KeepsEntity self.old front self.new lines.new.items) }
         ensures sparing { (front : List ℕ) → length front ≡ len
             → lines.old.items ≡ front ++ lines_of moment (event_deed event.now)
-            → IfSome result (λ outcome. spec.may_change event.now outcome ≡ false
-            → differs self.old self.new ≡ false → lines.new.items ≡ front) }
+            → IfSome result (λ outcome. spec.may_change (swept reading self.old) event.now outcome
+            self.new ≡ false → differs self.old self.new ≡ false → lines.new.items ≡ front) }
     {
-        let (outcome, differs) = self.advance(reading, event);
-        if is_cut_short(&outcome) {
+        let (observed, differs) = self.advance(reading, event);
+        if is_cut_short(&observed.outcome) {
             return None;
         }
-        if may_change(event, &outcome) {
-            return Some(outcome);
+        if may_change(event, &observed) {
+            return Some(observed.outcome);
         }
         lines.truncate(len);
         if push_expiry(self.alloc(), lines, moment, differs) {
-            Some(outcome)
+            Some(observed.outcome)
         } else {
             None
         }
@@ -239,8 +242,8 @@ impl<T: Tree> Journaled<T> {
             → IfSome result (λ _. Records KeepsEntity self.old front self.new lines.new.items) }
         ensures sparing { (front : List ℕ) → length front ≡ len
             → lines.old.items ≡ pushed has_own front moment event.now
-            → IfSome result (λ outcome. spec.may_change event.now outcome ≡ false
-            → differs self.old self.new ≡ false → lines.new.items ≡ front) }
+            → IfSome result (λ outcome. spec.may_change (swept reading self.old) event.now outcome
+            self.new ≡ false → differs self.old self.new ≡ false → lines.new.items ≡ front) }
     {
         if has_own {
             self.record_own(reading, event, moment, lines, len)
@@ -271,7 +274,8 @@ impl<T: Tree> Journaled<T> {
         ensures step { IfSome result (λ outcome. Step reading event.now self.old outcome self.new) }
         ensures records { IfSome result
             (λ _. Records KeepsEntity self.old lines.old.items self.new lines.new.items) }
-        ensures sparing { IfSome result (λ outcome. spec.may_change event.now outcome ≡ false
+        ensures sparing { IfSome result
+            (λ outcome. spec.may_change (swept reading self.old) event.now outcome self.new ≡ false
             → differs self.old self.new ≡ false → lines.new.items ≡ lines.old.items) }
     {
         let moment = self.moment(reading);
@@ -338,7 +342,7 @@ impl<T: Tree> Journaled<T> {
             → differs self.old self.new ≡ false → lines.new.items ≡ front) }
     {
         let (ticked, differs) = self.advance(reading, &Event::Tick);
-        if !is_ticked(ticked) {
+        if !is_ticked(ticked.outcome) {
             lines.truncate(len);
             return Some(starved());
         }
@@ -395,7 +399,7 @@ impl<T: Tree> Recorder for Journaled<T> {
 
         // Nothing is written of what can't have changed more than the moment.
         ensures sparing { IfSome result
-            (λ outcome. spec.may_change_kept reading self.old event.now outcome ≡ false
+            (λ outcome. spec.may_change_kept reading self.old event.now outcome self.new ≡ false
             → differs self.old self.new ≡ false → lines.new.items ≡ lines.old.items) }
     {
         match event {

@@ -13,7 +13,7 @@ use Rattle.m2m_names.proofs.NameLemmas.{range_parts}
 use Rattle.m2m_names.specs.StatusNumbers.{least_code, greatest_code, named_numbers, is_other}
 use Rattle.m2m_names.specs.declared.codes.OtherNumber.{OtherNumber}
 use Rattle.m2m_names.specs.declared.codes.Rsc.{Rsc}
-use Rattle.m2m_names.specs.declared.codes.Rsc.TheVariants.{Ok as Fine, Created, Deleted, Updated, BadRequest, NotFound, NotAllowed, RequestTimeout, NoPrivilege, Conflict, BadChild, Internal, NotImplemented, NotReachable, NotSubscribable, NonBlocking, NotAcceptable, TooManyMembers, WrongMember, Other}
+use Rattle.m2m_names.specs.declared.codes.Rsc.TheVariants.{Accepted, Ok as Fine, Created, Deleted, Updated, BadRequest, NotFound, NotAllowed, RequestTimeout, NoPrivilege, Conflict, BadChild, Internal, NotImplemented, NotReachable, NotSubscribable, NonBlocking, NotAcceptable, TooManyMembers, WrongMember, Other}
 use Rattle.m2m_names.specs.StatusCodes.{rsc_row, http_status_of_other, named_codes, named_code, other_code, rsc_of_number}
 
 none_step : {X : Type 0} (x : X) (here rest : Bool) (found : Option X) → (rest ≡ false → found ≡ None) → (here || rest) ≡ false → cond here (Some x) found ≡ None
@@ -68,6 +68,7 @@ other_again o n same none =
 
 -- each status code is found at its number
 pub rsc_again : (r : Rsc) → rsc_of_number (rsc_row r).number ≡ Some r
+rsc_again Accepted = refl
 rsc_again Fine = refl
 rsc_again Created = refl
 rsc_again Deleted = refl
@@ -102,6 +103,7 @@ other_three n = elim (cases_Bool (is_in_range 2000 2999 n)) [
 
 -- a status number has four digits
 pub number_in_range : (r : Rsc) → IsInRange 1000 9999 (rsc_row r).number
+number_in_range Accepted = (lit≤ tt, lit≤ tt)
 number_in_range Fine = (lit≤ tt, lit≤ tt)
 number_in_range Created = (lit≤ tt, lit≤ tt)
 number_in_range Deleted = (lit≤ tt, lit≤ tt)
@@ -151,6 +153,7 @@ none_beyond n big = by_found (rsc_of_number n) refl
 
 -- and an HTTP status three
 pub http_in_range : (r : Rsc) → IsInRange 100 999 (rsc_row r).http
+http_in_range Accepted = (lit≤ tt, lit≤ tt)
 http_in_range Fine = (lit≤ tt, lit≤ tt)
 http_in_range Created = (lit≤ tt, lit≤ tt)
 http_in_range Deleted = (lit≤ tt, lit≤ tt)

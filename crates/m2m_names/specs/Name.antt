@@ -93,6 +93,10 @@ is_numbered word text = starts_with nat_eq text word
 abbrev pub is_resource_id : List ℕ → Bool
 is_resource_id text = list_any (λ ty. is_numbered (ty_row ty).word text) all_types
 
+-- a text in the form of the id of a request that is answered later: `req` and digits
+abbrev pub is_request_id : List ℕ → Bool
+is_request_id text = is_numbered (codes "req") text
+
 -- an originator: 1 to 256 printable ASCII characters without a space (TS-0004, 6.3.3)
 abbrev pub is_originator : List ℕ → Bool
 is_originator text = is_printable originator_limit text

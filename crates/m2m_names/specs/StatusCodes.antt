@@ -4,7 +4,8 @@ use Rattle.std.specs.Prelude.{ℕ, Bool, true, false, List, [], ◌∷◌, Optio
 use Rattle.std.specs.Prelude.{if◌then◌else◌, IsTrue, refl}
 use Rattle.std.specs.Int.{is_in_range}
 use Rattle.std.specs.Option.{option_or}
-use Rattle.m2m_names.specs.StatusNumbers.{is_other, RscRow, rsc_entry, fine_row, created_row}
+use Rattle.m2m_names.specs.StatusNumbers.{is_other, RscRow, rsc_entry, accepted_row, fine_row}
+use Rattle.m2m_names.specs.StatusNumbers.{created_row}
 use Rattle.m2m_names.specs.StatusNumbers.{deleted_row, updated_row, bad_request_row, not_found_row}
 use Rattle.m2m_names.specs.StatusNumbers.{not_allowed_row, request_timeout_row, no_privilege_row}
 use Rattle.m2m_names.specs.StatusNumbers.{conflict_row, bad_child_row, internal_row}
@@ -13,7 +14,8 @@ use Rattle.m2m_names.specs.StatusNumbers.{not_subscribable_row, non_blocking_row
 use Rattle.m2m_names.specs.StatusNumbers.{not_acceptable_row, too_many_members_row}
 use Rattle.m2m_names.specs.StatusNumbers.{wrong_member_row}
 use Rattle.m2m_names.specs.declared.codes.Rsc.{Rsc}
-use Rattle.m2m_names.specs.declared.codes.Rsc.TheVariants.{Ok as Fine, Created, Deleted, Updated}
+use Rattle.m2m_names.specs.declared.codes.Rsc.TheVariants.{Accepted, Ok as Fine, Created, Deleted}
+use Rattle.m2m_names.specs.declared.codes.Rsc.TheVariants.{Updated}
 use Rattle.m2m_names.specs.declared.codes.Rsc.TheVariants.{BadRequest, NotFound, NotAllowed}
 use Rattle.m2m_names.specs.declared.codes.Rsc.TheVariants.{RequestTimeout, NoPrivilege, Conflict}
 use Rattle.m2m_names.specs.declared.codes.Rsc.TheVariants.{BadChild, Internal, NotImplemented}
@@ -32,6 +34,7 @@ http_status_of_other n =
 
 -- the row of each status code
 abbrev pub rsc_row : Rsc → RscRow
+rsc_row Accepted = accepted_row
 rsc_row Fine = fine_row
 rsc_row Created = created_row
 rsc_row Deleted = deleted_row
@@ -60,8 +63,8 @@ is_success rsc = is_success_number (rsc_row rsc).number
 -- all status codes that have a name, in the order of their numbers
 abbrev pub named_codes : List Rsc
 named_codes =
-    Fine ∷ Created ∷ Deleted ∷ Updated ∷ BadRequest ∷ NotFound ∷ NotAllowed ∷ RequestTimeout ∷
-    NoPrivilege ∷ Conflict ∷ BadChild ∷ Internal ∷ NotImplemented ∷ NotReachable ∷
+    Accepted ∷ Fine ∷ Created ∷ Deleted ∷ Updated ∷ BadRequest ∷ NotFound ∷ NotAllowed ∷
+    RequestTimeout ∷ NoPrivilege ∷ Conflict ∷ BadChild ∷ Internal ∷ NotImplemented ∷ NotReachable ∷
     NotSubscribable ∷ NonBlocking ∷ NotAcceptable ∷ TooManyMembers ∷ WrongMember ∷ []
 
 -- the status code of a number that has no name

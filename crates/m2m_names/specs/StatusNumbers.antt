@@ -16,6 +16,10 @@ rsc_entry number http = record { number = number; http = http }
 
 -- ---- the rows
 
+-- 1000, ACCEPTED, says that the request is served later (TS-0004, 6.6.3). HTTP has 202 for it.
+abbrev pub accepted_row : RscRow
+accepted_row = rsc_entry 1000 202
+
 -- 2000, OK, says that the request was served (TS-0004, 6.6.3). HTTP has 200 for it.
 abbrev pub fine_row : RscRow
 fine_row = rsc_entry 2000 200
@@ -109,8 +113,8 @@ wrong_member_row = rsc_entry 6011 400
 -- all of them, in the order of their numbers
 abbrev pub named_rows : List RscRow
 named_rows =
-    fine_row ∷ created_row ∷ deleted_row ∷ updated_row ∷ bad_request_row ∷ not_found_row ∷
-    not_allowed_row ∷ request_timeout_row ∷ no_privilege_row ∷ conflict_row ∷ bad_child_row ∷
+    accepted_row ∷ fine_row ∷ created_row ∷ deleted_row ∷ updated_row ∷ bad_request_row ∷
+    not_found_row ∷ not_allowed_row ∷ request_timeout_row ∷ no_privilege_row ∷ conflict_row ∷ bad_child_row ∷
     internal_row ∷ not_implemented_row ∷ not_reachable_row ∷ not_subscribable_row ∷
     non_blocking_row ∷ not_acceptable_row ∷ too_many_members_row ∷ wrong_member_row ∷ []
 

@@ -3,7 +3,7 @@ ghost use Rattle.std.specs.Prelude.{◌≡◌, ◌↔◌, IsTrue, IfSome, IsSome
 ghost use Rattle.std.specs.Int.{IsInRange};
 ghost use Rattle.m2m_names.specs.StatusNumbers.{is_other};
 
-/// A number from 1000 to 9999 that no other status code has.
+/// A number from 1001 to 9999 that no other status code has.
 #[derive(Clone, Copy, Debug, PartialEq, Eq)]
 pub struct OtherNumber {
     pub number: u16,
@@ -13,6 +13,7 @@ pub struct OtherNumber {
 /// A response status code (TS-0004, 6.6.3).
 #[derive(Clone, Copy, Debug, PartialEq, Eq)]
 pub enum Rsc {
+    Accepted,
     Ok,
     Created,
     Deleted,
@@ -41,7 +42,8 @@ const LEAST_CODE: u16 = 1000;
 
 const GREATEST_CODE: u16 = 9999;
 
-const NAMED: [Rsc; 19] = [
+const NAMED: [Rsc; 20] = [
+    Rsc::Accepted,
     Rsc::Ok,
     Rsc::Created,
     Rsc::Deleted,
@@ -86,6 +88,7 @@ impl Rsc {
         ensures http { result.1 ≡ (rsc_row self).http }
     {
         match self {
+            Rsc::Accepted => (1000, 202),
             Rsc::Ok => (2000, 200),
             Rsc::Created => (2001, 201),
             Rsc::Deleted => (2002, 200),

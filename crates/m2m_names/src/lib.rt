@@ -31,7 +31,7 @@ pub use ids::{LARGEST_COUNT, digits_number, is_numeral, number_spelled, read_dig
 pub use laws::status_numbers_have_their_digits;
 pub use name::{
     are_digits, are_graphic, is_filled, is_free_name, is_local_originator, is_name, is_originator,
-    is_resource_id,
+    is_request_id, is_resource_id,
 };
 pub use operations::{ALL_BITS, DISCOVERY_BIT, Op};
 pub use stamps::{LAST_MOMENT, read_stamp, write_stamp};

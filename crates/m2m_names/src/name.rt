@@ -72,6 +72,13 @@ pub fn is_resource_id(text: &[u8]) -> bool
         .any(|ty| is_numbered(text, ty.word().as_bytes()))
 }
 
+/// Whether the text has the form of the id of a request that is answered later: `req` and digits.
+pub fn is_request_id(text: &[u8]) -> bool
+    ensures { result ≡ spec.is_request_id text.now }
+{
+    is_numbered(text, b"req")
+}
+
 fn is_numbered(text: &[u8], word: &[u8]) -> bool
     ensures { result ≡ spec.is_numbered word.now text.now }
 {

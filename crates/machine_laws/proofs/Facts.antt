@@ -8,8 +8,7 @@ pub use Rattle.group_fanout.proofs.OperationLemmas.{changing_at, reading_found, 
 pub use Rattle.m2m_names.proofs.ListLemmas.{all_weaker}
 pub use Rattle.policy_laws.proofs.SeenLemmas.{ae_id-seen, at-seen, cse_id-seen, fan_grants-seen, first_passes, grants-seen, one_point, relinks-seen, seen_shows, shown_kept, way-in_order}
 pub use Rattle.request_rules.proofs.OrderLemmas.{members_parts}
-pub use Rattle.sight_laws.proofs.CseOrderLemmas.{order_left, order_spent}
-pub use Rattle.sight_laws.proofs.SeenAlikeLemmas.{AreSeenAlike, FoundAlike, by_fault, found_alike, found_both, not_found, same_home, same_last, same_seen, seen_same, spent_alike, through_sight}
+pub use Rattle.sight_laws.proofs.SeenAlikeLemmas.{AreLeftAlike, AreSeenAlike, FoundAlike, by_fault, found_alike, found_both, not_found, same_home, same_last, same_seen, seen_same, spent_alike, through_sight}
 pub use Rattle.sight_laws.proofs.ToldLemmas.{OnlySubsCount, count_whom, expiry_seen, for_whom, numbers_seen, numbers_told, numbers_told_all, only_seen, removal_seen, sight_counts, sound_counts, spent_counts, spent_well, times, whom_all, without_counts}
 pub use Rattle.std.proofs.lemmas.Bool.{and_from, and_parts, both_ways, cases_Bool, cond-false, cond-true, eqb-true, false≢true, not-true, or_cases, or_left, or_parts, or_right, true≢false}
 pub use Rattle.std.proofs.lemmas.Bool.Decides.{nat_tests}

@@ -1,13 +1,12 @@
--- A fan-out gives what is seen alike: whoever may fan out to a group sees its members, and what
--- comes of a request to each of them is seen alike.
+-- A fan-out is answered alike: whoever may fan out to a group sees its members, and a request to each
+-- of them is answered alike.
 use Rattle.machine_laws.proofs.Words.{◌≡◌, ℕ, ◌+◌, List, [], ◌∷◌, ◌++◌, map, true, false, Option, Some, None, option_map, inl, inr, refl, sym, ap, ap₂, subst, ◌∙◌, arith, nat_lt, option_and_then}
 use Rattle.machine_laws.proofs.Terms.{op_row, Mid, Fine, Op, Create, Retrieve, Update, Delete, Notify, Group, Data, text, ReplyParts, RequestParts, HomeData, ResourceData, is_ty, at, bits_by, do_give, has_bits, fan_rules, listed_in, texts_of, may_use, seen, base_of, first_named, is_at, next_named, poll_point, spot_from, spot_of, Resource, Fan, EntityData, reply_to, after_members, fanned, gathered_one, gathering, listed_members, member_effect, requests_to, sent_to, singles_of}
-use Rattle.machine_laws.proofs.Facts.{and_from, both_ways, cases_Bool, or_right, nat_tests, seen_shows, AreSeenAlike}
+use Rattle.machine_laws.proofs.Facts.{and_from, both_ways, cases_Bool, or_right, nat_tests, seen_shows, AreLeftAlike}
 use Rattle.filter_criteria.specs.Values.{object_of}
 use Rattle.primitive_json.specs.Members.{name_of_member}
 use Rattle.primitive_json.specs.Writing.{reply_rows}
 use Rattle.primitive_json.specs.declared.member.Member.TheVariants.{Target}
-use Rattle.machine_laws.specs.Sight.{sight}
 use Rattle.machine_laws.proofs.SpotLemmas.{a_fan_point, a_poll_point, a_resource, leads_to}
 
 -- ---- a fan-out point is that of a group
@@ -84,32 +83,32 @@ module _ (home : HomeData) (nodes : List ResourceData) (o : List ℕ) (group : R
 -- ---- one member after another
 
 -- what the replies of members tell, one after another, and the entities that they leave
-pub record AreFannedAlike (o : List ℕ) (one other : EntityData) (requests : List RequestParts) : Type 0 where
+pub record AreFannedAlike (Rel : EntityData → EntityData → Type 0) (one other : EntityData) (requests : List RequestParts) : Type 0 where
   pub replies : map gathered_one (singles_of one requests) ≡ map gathered_one (singles_of other requests)
-  pub after : sight o (after_members one requests) ≡ sight o (after_members other requests)
+  pub after : Rel (after_members one requests) (after_members other requests)
 
 -- what a reply to a member tells
 abbrev told_of_member : List ℕ → ReplyParts → Data
 told_of_member address reply = object_of (reply_rows reply ++ (name_of_member Target, Some (text address)) ∷ [])
 
--- where a request to any member gives what is seen alike, of entities that are so and stay so
-module _ (o : List ℕ) (request : RequestParts) (Is : EntityData → Type 0) (alike : (one other : EntityData) (address : List ℕ) → Is one → Is other → sight o one ≡ sight o other → AreSeenAlike o (member_effect one (sent_to request address)) (member_effect other (sent_to request address))) (stays : (e : EntityData) (address : List ℕ) → Is e → Is (member_effect e (sent_to request address)).after) where
-  pub fanned_alike : (addresses : List (List ℕ)) (one other : EntityData) → Is one → Is other → sight o one ≡ sight o other → AreFannedAlike o one other (requests_to request addresses)
-  fanned_alike [] one other is are same = record { replies = refl; after = same }
-  fanned_alike (address ∷ addresses) one other is are same =
+-- where a request to any member is answered alike by entities of which this holds, and leaves such
+module _ (request : RequestParts) (Is : EntityData → Type 0) (Rel : EntityData → EntityData → Type 0) (alike : (one other : EntityData) (address : List ℕ) → Is one → Is other → Rel one other → AreLeftAlike Rel (member_effect one (sent_to request address)) (member_effect other (sent_to request address))) (stays : (e : EntityData) (address : List ℕ) → Is e → Is (member_effect e (sent_to request address)).after) where
+  pub fanned_alike : (addresses : List (List ℕ)) (one other : EntityData) → Is one → Is other → Rel one other → AreFannedAlike Rel one other (requests_to request addresses)
+  fanned_alike [] one other is are rel = record { replies = refl; after = rel }
+  fanned_alike (address ∷ addresses) one other is are rel =
       let first = member_effect one (sent_to request address) in
       let second = member_effect other (sent_to request address) in
-      let both = alike one other address is are same in
+      let both = alike one other address is are rel in
       let rest = fanned_alike addresses first.after second.after (stays one address is) (stays other address are) both.after in
       record {
         replies = ap₂ (λ (d : Data) (ds : List Data). d ∷ ds) (ap (told_of_member address) both.reply) rest.replies;
         after = rest.after;
       }
 
-  -- and so does the fan-out
-  pub fan_alike : (addresses : List (List ℕ)) (one other : EntityData) → Is one → Is other → sight o one ≡ sight o other → AreSeenAlike o (fanned one request (requests_to request addresses)) (fanned other request (requests_to request addresses))
-  fan_alike addresses one other is are same =
-      let all = fanned_alike addresses one other is are same in
+  -- so is the fan-out
+  pub fan_alike : (addresses : List (List ℕ)) (one other : EntityData) → Is one → Is other → Rel one other → AreLeftAlike Rel (fanned one request (requests_to request addresses)) (fanned other request (requests_to request addresses))
+  fan_alike addresses one other is are rel =
+      let all = fanned_alike addresses one other is are rel in
       record {
         reply = ap (λ (ds : List Data). reply_to request Fine (Some (gathering ds))) all.replies;
         after = all.after;

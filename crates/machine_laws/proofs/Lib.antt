@@ -6,12 +6,12 @@ pub mod FanSightLemmas
 pub mod RouteSightLemmas
 pub mod PollSightLemmas
 pub mod AddressAlikeLemmas
+pub mod ShapeLemmas
+pub mod ChangeAlikeLemmas
 pub mod SightLemmas
-pub mod CseOrderLemmas
 pub mod AlikeLemmas
 pub mod AskedLemmas
 pub mod CompleteLemmas
 pub mod OrderLemmas
 pub mod OutboxLemmas
 pub mod RiseLemmas
-pub mod ChangeAlikeLemmas

@@ -1,17 +1,25 @@
 -- Where a request goes that is sent to another CSE is the same on what an originator sees.
-use Rattle.machine_laws.proofs.Words.{codes, nat_eq, ◌≡◌, ℕ, List, [], ◌∷◌, map, Bool, true, false, ◌&&◌, Option, Some, None, is_some, option_map, inl, inr, refl, sym, ap, subst, ◌∙◌, AllByRecursion, cons_option, filter_map, starts_with, option_and_then}
-use Rattle.machine_laws.proofs.Terms.{Poa, RemoteCse, Data, AreInOrder, Row, value_of, HomeData, ResourceData, is_ty, at, cse_of, is_cse, is_due, is_tree, is_well_formed, live, overdue_numbers, resource_number, same_text, is_shown, only_point, seen, seen_list, seen_value, way_in, first_of, cse_named, first_url, leading_cse_id, notes_of_all, EntityData, event_moment, swept, expiry_changes, comes_from_cse}
-use Rattle.machine_laws.proofs.Facts.{both_ways, cases_Bool, same_Some, tree_from_well_formed, is_well_formed-without, at-seen, cse_id-seen, first_passes, one_point, seen_shows, shown_kept, way-in_order, order_left, order_spent, OnlySubsCount, without_counts}
-use Rattle.std.specs.Prelude.{find}
+use Rattle.machine_laws.proofs.Words.{codes, nat_eq, ◌≡◌, ℕ, List, [], ◌∷◌, map, Bool, true, false, ◌&&◌, Option, Some, None, is_some, option_map, inl, inr, refl, sym, ap, subst, ◌∙◌, AllByRecursion, cons_option, filter_map, list_all, starts_with, option_and_then, option_map_or}
+use Rattle.machine_laws.proofs.Terms.{Poa, RemoteCse, Data, AreInOrder, Row, value_of, HomeData, ResourceData, is_ty, at, cse_of, is_cse, is_due, is_tree, is_well_formed, live, overdue_numbers, resource_number, same_text, is_shown, only_point, seen, seen_list, seen_value, way_in, first_of, cse_named, first_url, leading_cse_id, notes_of_all, DraftParts, EntityData, event_moment, swept, expiry_changes, comes_from_cse}
+use Rattle.machine_laws.proofs.Facts.{both_ways, cases_Bool, same_Some, all_weaker, at-seen, cse_id-seen, first_passes, one_point, seen_shows, shown_kept, way-in_order}
+use Rattle.std.specs.Prelude.{find, pos}
 use Rattle.std.specs.declared.cmp.Ordering.TheVariants.{Less}
 use Rattle.m2m_names.specs.Attributes.{attr_cmp}
 use Rattle.m2m_names.specs.declared.attributes.Attr.{Attr}
+use Rattle.m2m_names.specs.declared.attributes.Attr.TheVariants.{Exc}
+use Rattle.m2m_value.specs.Data.{number}
+use Rattle.tree_model.specs.Tree.{recounted, without}
 use Rattle.std.specs.List.Sorted.{IsStrictlySortedBy}
 use Rattle.std.specs.Map.{keys_of}
 use Rattle.policy_laws.proofs.ReplaceLemmas.{kept_row}
 use Rattle.retrieve_discover.proofs.OrderLemmas.{in_order-tree}
 use Rattle.retrieve_laws.proofs.FoundLemmas.{Each, IsFound, each_found}
-use Rattle.machine_laws.specs.Sight.{AreCsesInOrder}
+use Rattle.tree_model.proofs.KeptLemmas.{list_all-map}
+use Rattle.tree_model.proofs.QuietLemmas.{number_passes}
+use Rattle.tree_model.proofs.TreeLemmas.{staying_all}
+use Rattle.entity_model.proofs.OrderLemmas.{order-with_value, order_from, order_kept}
+use Rattle.entity_model.specs.Sound.{keeps_order}
+use Rattle.subscription_match.specs.Spending.{is_spent, left_of, lowered}
 
 -- ---- what is found is there
 
@@ -112,6 +120,13 @@ cse_there nodes text cse tree named = by (find (is_cse (leading_cse_id text)) no
 
 -- ---- attributes in order
 
+-- those of each resource of a list stand in order
+abbrev pub AreOrdered : List ResourceData → Type 0
+AreOrdered nodes = list_all keeps_order nodes ≡ true
+
+pub in_order_at : (n : ℕ) (nodes : List ResourceData) (r : ResourceData) → AreOrdered nodes → at n nodes ≡ Some r → AreInOrder r.attrs
+in_order_at n nodes r order found = order_from r (number_passes keeps_order n nodes r order found)
+
 module _ (h : Attr → Data → Option Data) where
   all_kept : (P : Attr → Type 0) (rows : List Row) → AllByRecursion P (keys_of rows) → AllByRecursion P (keys_of (filter_map (kept_row h) rows))
   all_kept P [] all = tt
@@ -131,23 +146,25 @@ module _ (h : Attr → Data → Option Data) where
       by (Some d) rest = (all_kept (λ (a : Attr). attr_cmp row.0 a ≡ Less) rows order.0, rest)
 
 -- they stay so in what is seen
-pub order_seen : (home : HomeData) (nodes : List ResourceData) (o : List ℕ) → AreCsesInOrder nodes → AreCsesInOrder (seen_list home nodes o)
-order_seen home nodes o order n cse found remote = by (at n nodes) refl (sym (at-seen home nodes o n) ∙ found)
+pub order_seen : (home : HomeData) (nodes : List ResourceData) (o : List ℕ) → AreOrdered nodes → AreOrdered (seen_list home nodes o)
+order_seen home nodes o order =
+    list_all-map keeps_order (seen home nodes o) nodes
+    ∙ all_weaker keeps_order (λ r. keeps_order (seen home nodes o r)) (λ r keeps. order_kept (seen home nodes o r) (kept_order (seen_value home nodes o r) r.attrs (order_from r keeps))) nodes order
+
+-- subscriptions that are lowered keep it
+lowered_order : (drafts : List DraftParts) (r : ResourceData) → keeps_order r ≡ true → keeps_order (lowered drafts r) ≡ true
+lowered_order drafts r keeps = by (left_of drafts r)
   where
-    by : (p : Option ResourceData) → at n nodes ≡ p → option_map (seen home nodes o) p ≡ Some cse → AreInOrder cse.attrs
-    by None is none = cc
-    by (Some r) is some =
-        let same : seen home nodes o r ≡ cse = same_Some (seen home nodes o r) cse some in
-        let kind : is_ty r.ty RemoteCse ≡ true = ap (λ (s : ResourceData). is_ty s.ty RemoteCse) same ∙ remote in
-        subst (λ (s : ResourceData). AreInOrder s.attrs) same (kept_order (seen_value home nodes o r) r.attrs (order n r is kind))
+    by : (left : Option ℕ) → keeps_order (option_map_or (λ n. recounted n r) left r) ≡ true
+    by None = keeps
+    by (Some left) = order-with_value Exc (number (pos left)) r.attrs keeps
 
 -- so they do at an entity from which what is due is gone
-pub order_swept : (e : EntityData) (reading : ℕ) → is_well_formed e.nodes ≡ true → OnlySubsCount e.nodes → AreCsesInOrder e.nodes → AreCsesInOrder (swept reading e).nodes
-order_swept e reading well counts order =
+pub order_swept : (e : EntityData) (reading : ℕ) → AreOrdered e.nodes → AreOrdered (swept reading e).nodes
+order_swept e reading order =
     let m = event_moment e.last reading in
     let drafts = notes_of_all e.home e.nodes (overdue_numbers m e.nodes) (expiry_changes m e.nodes) in
-    let left = live m e.nodes in
-    let left_well : is_well_formed left ≡ true = is_well_formed-without (is_due e.nodes m) e.nodes well in
-    let left_counts = without_counts (is_due e.nodes m) e.nodes counts in
-    order_spent drafts left (tree_from_well_formed left left_well) left_counts
-    (order_left (is_due e.nodes m) e.nodes (tree_from_well_formed e.nodes well) order)
+    let left : AreOrdered (live m e.nodes) = staying_all (is_due e.nodes m) keeps_order [] e.nodes order in
+    let kept : AreOrdered (without (is_spent drafts) (live m e.nodes)) = staying_all (is_spent drafts) keeps_order [] (live m e.nodes) left in
+    list_all-map keeps_order (lowered drafts) (without (is_spent drafts) (live m e.nodes))
+    ∙ all_weaker keeps_order (λ r. keeps_order (lowered drafts r)) (lowered_order drafts) (without (is_spent drafts) (live m e.nodes)) kept

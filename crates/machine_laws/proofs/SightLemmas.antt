@@ -2,21 +2,21 @@
 use Rattle.machine_laws.proofs.Words.{◌≡◌, ◌⊎◌, ◌||◌, ℕ, List, [], ◌∷◌, map, Bool, true, false, cond, Option, Some, None, option_map, inl, inr, refl, sym, ap, ap₂, subst, ◌∙◌, option_map_or, list_any}
 use Rattle.machine_laws.proofs.Terms.{op_row, Rsc, BadRequest, NoPrivilege, NotAllowed, Op, Create, Retrieve, Update, Delete, Notify, RequestParts, HomeData, ResourceData, has_number, deleted, at, is_due, is_well_formed, live, numbers_of, overdue_numbers, without, address_of, fanned, member_effect, sent_to, seen, seen_list, notes_of_all, DraftParts, EntityData, event_moment, expired, expired_told, swept, expiry_changes, refused, IsSoundEntity, fault_on, is_for, discovered, retrieved, only_in, delete_effect, notify_effect, notify_on, told_effect_by, told_effect_on, EventEffect, as_done, first_places, does_serve, is_served, effect_of, operation_effect, found_effect, reading_reply, resource_effect, is_discovery, claimed_originator, first_fault}
 use Rattle.machine_laws.proofs.Facts.{both_ways, cases_Bool, false≢true, not-true, or_cases, or_left, tree_from_well_formed, KeepsStanding, is_well_formed-map, is_well_formed-without, ae_id-seen, at-seen, cse_id-seen, grants-seen, AreSeenAlike, by_fault, same_home, same_last, same_seen, spent_alike, through_sight, claimed_valid, sound_swept, OnlySubsCount, expiry_seen, for_whom, numbers_seen, numbers_told_all, only_seen, removal_seen, sight_counts, sound_counts, spent_counts, spent_well, whom_all, without_counts}
-use Rattle.std.specs.Prelude.{not}
+use Rattle.std.specs.Prelude.{not, ◌&&◌}
 use Rattle.tree_model.proofs.LiveLemmas.{without_none}
-use Rattle.policy_laws.proofs.ShapeLemmas.{sight_shape}
 use Rattle.policy_laws.proofs.TwiceLemmas.{left-seen, live-same, seen_list-twice}
 use Rattle.sight_laws.proofs.AnswerLemmas.{retrieved-seen}
 use Rattle.sight_laws.proofs.SightLemmas.{discovered-seen}
 use Rattle.group_fanout.specs.Operations.{change_effect, relay_effect}
-use Rattle.guard_laws.proofs.MemberLemmas.{MaySend, member_kept, of_member, served_sent}
+use Rattle.guard_laws.proofs.MemberLemmas.{IsSoundAt, MaySend, member_kept, of_member, served_sent}
 use Rattle.guard_laws.proofs.RelayLemmas.{relay_nodes}
-use Rattle.machine_laws.proofs.AddressAlikeLemmas.{AreAnsweredAlike, effect_alike}
-use Rattle.machine_laws.proofs.ChangeAlikeLemmas.{create_alike, update_alike}
+use Rattle.sight_laws.specs.Laws.{changes_rules}
+use Rattle.machine_laws.proofs.AddressAlikeLemmas.{AreAnsweredSo, asked_same, carried_by_sight, effect_so}
+use Rattle.machine_laws.proofs.ChangeAlikeLemmas.{SameShape, SameSight, create_so, rules_so, update_so}
 use Rattle.guard_laws.proofs.JudgedLemmas.{heard_facts, refused_effect}
 use Rattle.retarget.specs.declared.routing.Route.TheVariants as to
-use Rattle.machine_laws.proofs.RouteSightLemmas.{order_seen, order_swept}
-use Rattle.machine_laws.specs.Sight.{sight, shape, asks_sight_alone, is_polling, leads_away, AreCsesInOrder, FindsUrls, IsRequestBy, SightHasItsShape, EqualSightsHaveOneShape}
+use Rattle.machine_laws.proofs.RouteSightLemmas.{AreOrdered, order_seen, order_swept}
+use Rattle.machine_laws.specs.Sight.{sight, asks_sight_alone, does_update, is_calm, is_poll, polls_at, IsRequestBy}
 
 -- ---- what is seen of a well-formed list is one
 
@@ -37,12 +37,12 @@ module _ (home : HomeData) (nodes : List ResourceData) (o : List ℕ) where
 -- ---- what is seen of what comes of a request
 
 -- what isn't served is refused alike
-unserved_alike : (e other : EntityData) (o : List ℕ) (request : RequestParts) → sight o e ≡ sight o other → is_served request ≡ false → AreAnsweredAlike o (effect_of e request) (effect_of other request)
-unserved_alike e other o request same f =
+unserved_alike : (e other : EntityData) (o : List ℕ) (request : RequestParts) (poll : Bool) → sight o e ≡ sight o other → is_served request ≡ false → AreAnsweredSo (SameSight o) poll (effect_of e request) (effect_of other request)
+unserved_alike e other o request poll same f =
     let one : effect_of e request ≡ as_done (refused e request BadRequest) = rw f refl in
     let two : effect_of other request ≡ as_done (refused other request BadRequest) = rw f refl in
-    subst (λ (x : EventEffect). AreAnsweredAlike o x (effect_of other request)) (sym one)
-    (subst (AreAnsweredAlike o (as_done (refused e request BadRequest))) (sym two) (record { outcome = refl; after = same }))
+    subst (λ (x : EventEffect). AreAnsweredSo (SameSight o) poll x (effect_of other request)) (sym one)
+    (subst (AreAnsweredSo (SameSight o) poll (as_done (refused e request BadRequest))) (sym two) (record { outcome = λ other_one. refl; after = same }))
 
 none_any : (nodes : List ResourceData) → list_any (λ (r : ResourceData). false) nodes ≡ false
 none_any [] = refl
@@ -228,13 +228,10 @@ module _ (o : List ℕ) (request : RequestParts) (covered : asks_sight_alone req
       through_sight o (λ (x : EntityData). resource_effect x (sent_to request address) (at n x.nodes)) one other same
       (on_resource one address n is) (on_resource other address n are)
 
-  covered_alike : (one other : EntityData) → IsThrough o request one → IsThrough o request other → sight o one ≡ sight o other → is_polling one.home request ≡ false → (leads_away (address_of one.home request.to) ≡ true → AreCsesInOrder one.nodes × AreCsesInOrder other.nodes) → AreAnsweredAlike o (effect_of one request) (effect_of other request)
-  covered_alike = effect_alike o request (IsThrough o request) (λ e is. is.by) (λ e is. is.well) resource_alike member_through
-
--- where a request leads to another CSE
-finds_both : (one other : EntityData) (o : List ℕ) (request : RequestParts) → sight o one ≡ sight o other → FindsUrls one request → FindsUrls other request → leads_away (address_of one.home request.to) ≡ true → AreCsesInOrder one.nodes × AreCsesInOrder other.nodes
-finds_both one other o request same finds find away =
-    (finds away, find (ap (λ (h : HomeData). leads_away (address_of h request.to)) (sym (same_home o one other same)) ∙ away))
+  covered_alike : (one other : EntityData) → IsThrough o request one → IsThrough o request other → sight o one ≡ sight o other → AreOrdered one.nodes → AreOrdered other.nodes → AreAnsweredSo (SameSight o) (is_poll one request) (effect_of one request) (effect_of other request)
+  covered_alike =
+      effect_so o request (IsThrough o request) (SameSight o)
+      (carried_by_sight o request (IsThrough o request) (λ e is. is.by) (λ e is. is.well) resource_alike member_through)
 
 -- an operation asks what is seen alone, or is a Create or an Update
 data WayOfSight (op : Op) : Type 0 where
@@ -306,99 +303,87 @@ module _ (o : List ℕ) (one other : EntityData) (well : is_well_formed one.node
       ∙ ap (λ (n : ℕ). sight o (expired_told (event_moment n reading) other)) (same_last o one other same)
 
 -- what comes of a request to two entities of which the originator sees the same, it sees alike
-alike : (one other : EntityData) (o : List ℕ) (request : RequestParts) → is_well_formed one.nodes ≡ true → is_well_formed other.nodes ≡ true → OnlySubsCount one.nodes → OnlySubsCount other.nodes → sight o one ≡ sight o other → IsRequestBy one.home o request → (asks_sight_alone request.op || not (is_served request)) ≡ true → FindsUrls one request → FindsUrls other request → AreAnsweredAlike o (effect_of one request) (effect_of other request)
-alike one other o request well wells counts count same by alone finds find = elim (cases_Bool (is_served request)) [
-  | inr f ↦ unserved_alike one other o request same f
+alike : (one other : EntityData) (o : List ℕ) (request : RequestParts) → is_well_formed one.nodes ≡ true → is_well_formed other.nodes ≡ true → OnlySubsCount one.nodes → OnlySubsCount other.nodes → sight o one ≡ sight o other → IsRequestBy one.home o request → (asks_sight_alone request.op || not (is_served request)) ≡ true → AreOrdered one.nodes → AreOrdered other.nodes → AreAnsweredSo (SameSight o) (is_poll one request) (effect_of one request) (effect_of other request)
+alike one other o request well wells counts count same by alone order orders = elim (cases_Bool (is_served request)) [
+  | inr f ↦ unserved_alike one other o request (is_poll one request) same f
   | inl t ↦ elim (or_cases (asks_sight_alone request.op) (not (is_served request)) alone) [
-    | inl covered ↦ elim by.1 [
+    | inl covered ↦ elim by [
       | inl own ↦
           let home : one.home ≡ other.home = same_home o one other same in
           covered_alike o request covered one other
-          (record { well = well; counts = counts; by = own.0 })
-          (record { well = wells; counts = count; by = ap (λ (h : HomeData). claimed_originator h request) (sym home) ∙ own.0 })
-          same own.1 (finds_both one other o request same finds find)
+          (record { well = well; counts = counts; by = own })
+          (record { well = wells; counts = count; by = ap (λ (h : HomeData). claimed_originator h request) (sym home) ∙ own })
+          same order orders
       | inr other_one ↦ absurd (both_ways _ other_one t)
     ]
     | inr unserved ↦ absurd (both_ways _ (not-true _ unserved) t)
   ]
 ]
 
--- and so does what comes of it where it is heard, of two that are sound
-heard_alike : (one other : EntityData) (o : List ℕ) (request : RequestParts) → IsSoundEntity one → IsSoundEntity other → sight o one ≡ sight o other → IsRequestBy one.home o request → FindsUrls one request → FindsUrls other request → AreAnsweredAlike o (effect_of one request) (effect_of other request)
-heard_alike one other o request sound sounds same by finds find =
+-- What comes of a request to two sound entities of which the originator sees the same: it sees alike
+-- what is left; or it names policies or rules, and what is left has one shape for it.
+pub data IsHeardAlike (o : List ℕ) (request : RequestParts) (poll : Bool) (x y : EventEffect) : Type 0 where
+  heard_so : AreAnsweredSo (SameSight o) poll x y → IsHeardAlike o request poll x y
+  judges_anew : is_calm request ≡ false → AreAnsweredSo (SameShape o) poll x y → IsHeardAlike o request poll x y
+
+heard_alike : (one other : EntityData) (o : List ℕ) (request : RequestParts) → IsSoundEntity one → IsSoundEntity other → sight o one ≡ sight o other → IsRequestBy one.home o request → IsHeardAlike o request (is_poll one request) (effect_of one request) (effect_of other request)
+heard_alike one other o request sound sounds same by =
     by_place_first (first_fault (first_places one request)) refl
   where
-    home : one.home ≡ other.home
-    home = same_home o one other same
-
-    by_place_first : (fault : Option Rsc) → first_fault (first_places one request) ≡ fault → AreAnsweredAlike o (effect_of one request) (effect_of other request)
+    by_place_first : (fault : Option Rsc) → first_fault (first_places one request) ≡ fault → IsHeardAlike o request (is_poll one request) (effect_of one request) (effect_of other request)
     by_place_first (Some fault) is =
         let too : first_fault (first_places other request) ≡ Some fault = sym (ap (λ (e : EntityData). first_fault (first_places e request)) same) ∙ is in
-        subst (λ (x : EventEffect). AreAnsweredAlike o x (effect_of other request)) (sym (refused_effect one request fault is))
-        (subst (AreAnsweredAlike o (as_done (refused one request fault))) (sym (refused_effect other request fault too)) (record { outcome = refl; after = same }))
+        heard_so (subst (λ (x : EventEffect). AreAnsweredSo (SameSight o) (is_poll one request) x (effect_of other request)) (sym (refused_effect one request fault is))
+        (subst (AreAnsweredSo (SameSight o) (is_poll one request) (as_done (refused one request fault))) (sym (refused_effect other request fault too)) (record { outcome = λ other_one. refl; after = same })))
     by_place_first None is =
         let heard = heard_facts one request is in
         by_way heard.served
         (record { served = heard.served; originator = claimed_valid one.home request heard.originator })
         (way_of_sight request.op)
       where
-        by_way : is_served request ≡ true → MaySend one.home request → WayOfSight request.op → AreAnsweredAlike o (effect_of one request) (effect_of other request)
+        here : IsSoundAt one.home one
+        here = record { sound = sound; home_is = refl }
+
+        there : IsSoundAt one.home other
+        there = record { sound = sounds; home_is = sym (same_home o one other same) }
+
+        by_way : is_served request ≡ true → MaySend one.home request → WayOfSight request.op → IsHeardAlike o request (is_poll one request) (effect_of one request) (effect_of other request)
         by_way served may (asks_alone alone) =
-            alike one other o request sound.tree sounds.tree (sound_counts one sound) (sound_counts other sounds) same by (or_left _ _ alone) finds find
-        by_way served may (creates op) = elim by.1 [
-          | inl own ↦
-              create_alike one.home o request own.0 may op one other (record { sound = sound; home_is = refl }) (record { sound = sounds; home_is = sym (same_home o one other same) })
-              same own.1 (finds_both one other o request same finds find)
+            heard_so (alike one other o request sound.tree sounds.tree (sound_counts one sound) (sound_counts other sounds) same by (or_left _ _ alone) sound.order sounds.order)
+        by_way served may (creates op) = elim by [
+          | inl own ↦ heard_so (create_so one.home o request own may op one other here there same sound.order sounds.order)
           | inr unserved ↦ absurd (both_ways _ unserved served)
         ]
-        by_way served may (updates op) = elim by.1 [
-          | inl own ↦
-              update_alike one.home o request own.0 may op (by.0 served op) one other (record { sound = sound; home_is = refl }) (record { sound = sounds; home_is = sym (same_home o one other same) })
-              same own.1 (finds_both one other o request same finds find)
+        by_way served may (updates op) = elim by [
+          | inl own ↦ elim (cases_Bool (changes_rules request)) [
+            | inr calm ↦ heard_so (update_so one.home o request own may op calm one other here there same sound.order sounds.order)
+            | inl rules ↦
+                let anew : is_calm request ≡ false = ap (λ (x : Op). not (does_update x && changes_rules request)) op ∙ ap (λ (b : Bool). not (true && b)) rules in
+                judges_anew anew (rules_so one.home o request own may op rules one other here there same sound.order sounds.order)
+          ]
           | inr unserved ↦ absurd (both_ways _ unserved served)
         ]
-
-finds_swept : (e : EntityData) (reading : ℕ) (request : RequestParts) → is_well_formed e.nodes ≡ true → OnlySubsCount e.nodes → FindsUrls e request → FindsUrls (swept reading e) request
-finds_swept e reading request well counts finds away = order_swept e reading well counts (finds away)
-
-finds_seen : (e : EntityData) (o : List ℕ) (request : RequestParts) → FindsUrls e request → FindsUrls (sight o e) request
-finds_seen e o request finds away = order_seen e.home e.nodes o (finds away)
 
 module _ (one other : EntityData) (o : List ℕ) (reading : ℕ) (sound : IsSoundEntity one) (sounds : IsSoundEntity other) (same : sight o one ≡ sight o other) where
   -- time passes alike
   pub passed-alike : sight o (swept reading one) ≡ sight o (swept reading other)
   passed-alike = swept-alike o one other sound.tree sounds.tree (sound_counts one sound) (sound_counts other sounds) same reading
 
-  module _ (request : RequestParts) (by : IsRequestBy one.home o request) (finds : FindsUrls one request) (find : FindsUrls other request) where
-    answered_alike : AreAnsweredAlike o (effect_of (swept reading one) request) (effect_of (swept reading other) request)
-    answered_alike =
-        heard_alike (swept reading one) (swept reading other) o request (sound_swept reading one sound) (sound_swept reading other sounds) passed-alike by
-        (finds_swept one reading request sound.tree (sound_counts one sound) finds) (finds_swept other reading request sounds.tree (sound_counts other sounds) find)
-
-    pub outcomes-alike : (effect_of (swept reading one) request).outcome ≡ (effect_of (swept reading other) request).outcome
-    outcomes-alike = answered_alike.outcome
-
-    pub left-alike : sight o (effect_of (swept reading one) request).after ≡ sight o (effect_of (swept reading other) request).after
-    left-alike = answered_alike.after
+  -- and a request is heard so
+  pub heard-alike : (request : RequestParts) → IsRequestBy one.home o request → IsHeardAlike o request (is_poll (swept reading one) request) (effect_of (swept reading one) request) (effect_of (swept reading other) request)
+  heard-alike request by =
+      heard_alike (swept reading one) (swept reading other) o request (sound_swept reading one sound) (sound_swept reading other sounds) passed-alike by
 
 -- on what it sees of an entity it is answered as by the entity
-pub outcome-seen : (e : EntityData) (o : List ℕ) (reading : ℕ) (request : RequestParts) → IsSoundEntity e → IsRequestBy e.home o request → (asks_sight_alone request.op || not (is_served request)) ≡ true → FindsUrls e request → (effect_of (swept reading (sight o e)) request).outcome ≡ (effect_of (swept reading e) request).outcome
-outcome-seen e o reading request sound by alone finds =
+pub outcome-seen : (e : EntityData) (o : List ℕ) (reading : ℕ) (request : RequestParts) → IsSoundEntity e → IsRequestBy e.home o request → (asks_sight_alone request.op || not (is_served request)) ≡ true → is_poll (swept reading e) request ≡ false → (effect_of (swept reading (sight o e)) request).outcome ≡ (effect_of (swept reading e) request).outcome
+outcome-seen e o reading request sound by alone unpolled =
     let counts = sound_counts e sound in
     let seen_well = well_seen e.home e.nodes o sound.tree in
     let seen_counts = sight_counts e.home e.nodes o counts in
     let same = sight_twice e o sound.tree counts in
+    let passed = swept-alike o (sight o e) e seen_well sound.tree seen_counts counts same reading in
     (alike (swept reading (sight o e)) (swept reading e) o request (well_swept (sight o e) reading seen_well) (well_swept e reading sound.tree)
     (counts_swept (sight o e) reading seen_counts) (counts_swept e reading counts)
-    (swept-alike o (sight o e) e seen_well sound.tree seen_counts counts same reading) by alone
-    (finds_swept (sight o e) reading request seen_well seen_counts (finds_seen e o request finds))
-    (finds_swept e reading request sound.tree counts finds)).outcome
-
--- ---- the shape
-
-pub sight_has_shape : SightHasItsShape
-sight_has_shape e o sound = ap (λ (ns : List ResourceData). record (shape o e) { nodes = ns }) (sight_shape e.home e.nodes o sound.tree)
-
-pub one_shape : EqualSightsHaveOneShape
-one_shape left right o sound sounds same =
-    sym (sight_has_shape left o sound) ∙ ap (shape o) same ∙ sight_has_shape right o sounds
+    passed by alone
+    (order_swept (sight o e) reading (order_seen e.home e.nodes o sound.order)) (order_swept e reading sound.order)).outcome
+    (ap (polls_at request.op) (asked_same o (swept reading (sight o e)) (swept reading e) passed request) ∙ unpolled)

@@ -39,7 +39,7 @@ pub use Rattle.m2m_value.specs.Data.{Data, text}
 pub use Rattle.notify_outbox.specs.Items.{is_to_send, still_waits, waits_for}
 pub use Rattle.policy_eval.specs.Rights.{bits_by, delete_bit, do_give, fan_grants, grants, has_bits, notify_bit, relinks, retrieve_bit, update_bit}
 pub use Rattle.policy_eval.specs.Rules.{fan_rules, listed_in, texts_of}
-pub use Rattle.policy_laws.specs.Seen.{first_url as first_of, is_shown, may_use, only_point, seen, seen_list, seen_value, way_in}
+pub use Rattle.equal_sights.specs.Seen.{first_url as first_of, is_shown, may_use, only_point, seen, seen_list, seen_value, way_in}
 pub use Rattle.primitive_json.specs.declared.note.NoteParts.{NoteParts}
 pub use Rattle.primitive_json.specs.declared.reply.ReplyParts.{ReplyParts}
 pub use Rattle.primitive_json.specs.declared.request.RequestParts.{RequestParts}

@@ -8,22 +8,27 @@ ghost use Rattle.machine_laws.specs.Complete.{WhatWaitsIsGiven};
 ghost use Rattle.machine_laws.specs.Order.{KindsHaveTheForm, RetrievesAreRefusedInOrder};
 ghost use Rattle.machine_laws.specs.Outbox.{OutboxesAreAccounted};
 ghost use Rattle.machine_laws.specs.Sight.{IsAnsweredBySight, EqualSightsAnswerAlike};
-ghost use Rattle.machine_laws.specs.Sight.{EqualSightsHaveOneShape, EqualSightsStayAlike};
+ghost use Rattle.machine_laws.specs.Sight.{EqualSightsHaveOneShape, EqualSightsKeepOneShape};
+ghost use Rattle.machine_laws.specs.Sight.{EqualSightsStayAlike, EqualSightsStayEqual};
 ghost use Rattle.machine_laws.specs.Sight.{SightHasItsShape};
 
-/// The outcome of a covered request, but of a Create or an Update, is a function of what its
+/// The outcome of a request, but of a Create, an Update or a poll, is a function of what its
 /// originator sees of the entity, of the reading and of the request.
 pub fn an_originator_is_answered_by_what_it_sees()
     ensures { IsAnsweredBySight }
 {}
 
-/// Two sound entities of which an originator sees the same answer the same covered request at the
-/// same reading alike, by a reply or by sending it on to another CSE: at a step, and so all along a
-/// history in which it alone asks and time passes. So they do where the request is fanned out. Who
-/// is told of what it does, how often, and which subscriptions go then, is the same for both; what
-/// they are told needn't be.
+/// Two sound entities of which an originator sees the same answer the same request at the same
+/// reading alike, by a reply or by sending it on to another CSE, unless it is a poll: at a step, and
+/// so all along a history in which it alone asks and time passes, up to and with the first request
+/// that names policies or rules. So they do where the request is fanned out. Afterwards it sees the
+/// same of both; behind a request that names policies or rules they have one shape for it. Who is
+/// told of what it does, how often, and which subscriptions go then, is the same for both; what they
+/// are told needn't be.
 pub fn equal_sights_are_answered_alike()
     ensures steps { EqualSightsAnswerAlike }
+    ensures seen { EqualSightsStayEqual }
+    ensures shaped { EqualSightsKeepOneShape }
     ensures histories { EqualSightsStayAlike }
 {}
 

@@ -153,12 +153,19 @@ module _ (limit : ℕ) where
   queues_fresh [] h = tt
   queues_fresh (q ∷ qs) h = (subst (IsQueueOf q.channel) (sym (fresh_is q.channel q.items h.0)) (queue_filter (is_fresh limit) q.channel q.items h.0), queues_fresh qs h.1)
 
-  all_young : (xs : List Item) → Each (λ (x : Item). limit + 1 ≤ x.since) (filter (is_fresh limit) xs)
+  pub all_young : (xs : List Item) → Each (λ (x : Item). limit + 1 ≤ x.since) (filter (is_fresh limit) xs)
   all_young [] = tt
   all_young (x ∷ xs) = elim (cases_Bool (is_fresh limit x)) [
     | inl t ↦ let less : limit < x.since = ltb-true _ _ t in let le : limit + 1 ≤ x.since = omega arith in rw t (le, all_young xs)
     | inr f ↦ rw f (all_young xs)
   ]
+
+  -- of what is left there is no more
+  pub fresh_fewer : (qs new : List Queue) → AreQueues qs → joined new ≡ joined (map (freshened limit) qs) → length (joined new) ≤ length (joined qs)
+  fresh_fewer qs new h same =
+      let long : length (joined new) ≡ length (filter (is_fresh limit) (joined qs)) = ap length (same ∙ joined_fresh qs h) in
+      let less : length (filter (is_fresh limit) (joined qs)) ≤ length (joined qs) = fewer (is_fresh limit) (joined qs) in
+      omega (arith, long, less)
 
   -- the queues without what is old are kept
   pub kept_fresh : (qs new : List Queue) (count oldest : ℕ) → AreKept qs count oldest → joined new ≡ joined (map (freshened limit) qs) → (AreQueues (map (freshened limit) qs) → AreQueues new) → AreKept new count (limit + 1)
@@ -181,13 +188,13 @@ module _ (limit : ℕ) where
           omega arith
 
 -- fresh by the limit is kept at the moment
-fresh_kept : (moment : ℕ) (x : Item) → keeping_time ≤ moment → is_fresh (moment - keeping_time) x ≡ still_waits moment x
+pub fresh_kept : (moment : ℕ) (x : Item) → keeping_time ≤ moment → is_fresh (moment - keeping_time) x ≡ still_waits moment x
 fresh_kept moment x le = elim (cases_Bool (is_fresh (moment - keeping_time) x)) [
   | inl t ↦ let less : moment - keeping_time < x.since = ltb-true _ _ t in let more : moment < x.since + keeping_time = omega arith in t ∙ sym (lt-ltb _ _ more)
   | inr f ↦ let old : x.since ≤ moment - keeping_time = ltb-false _ _ f in let past : x.since + keeping_time ≤ moment = omega arith in f ∙ sym (le-ltb _ _ past)
 ]
 
-filter_same : (p q : Item → Bool) → ((x : Item) → p x ≡ q x) → (xs : List Item) → filter p xs ≡ filter q xs
+pub filter_same : (p q : Item → Bool) → ((x : Item) → p x ≡ q x) → (xs : List Item) → filter p xs ≡ filter q xs
 filter_same p q same [] = refl
 filter_same p q same (x ∷ xs) = rw (same x, filter_same p q same xs) refl
 

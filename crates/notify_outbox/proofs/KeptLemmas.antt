@@ -32,6 +32,20 @@ kept_popped qs new count oldest i x kept pops = record {
         let bound : length (joined qs) ≤ count = kept.few in
         omega arith
 
+-- of what is left there is one less
+pub popped_fewer : (qs new : List Queue) (i : ℕ) (x : Item) → Pops i qs new x → length (joined new) + 1 ≡ length (joined qs)
+popped_fewer qs new i x pops =
+    let long : length (joined qs) ≡ length pops.before + length (x ∷ pops.after) = ap length pops.was ∙ length-append pops.before (x ∷ pops.after) in
+    let short : length (joined new) ≡ length pops.before + length pops.after = ap length pops.is ∙ length-append pops.before pops.after in
+    omega arith
+
+-- and where one is put, there is one more
+pub put_longer : (qs new : List Queue) (channel : Option ℕ) (x : Item) → Puts channel (x ∷ []) qs new → length (joined new) ≡ length (joined qs) + 1
+put_longer qs new channel x puts =
+    let was : length (joined qs) ≡ length puts.before + length puts.after = ap length puts.was ∙ length-append puts.before puts.after in
+    let is : length (joined new) ≡ length puts.before + length (x ∷ puts.after) = ap length puts.is ∙ length-append puts.before (x ∷ puts.after) in
+    omega arith
+
 -- an item with the next number is put behind the others of its channel
 module _ (qs new : List Queue) (count oldest : ℕ) (x : Item) (number : count < x.number) (kept : AreKept qs count oldest) (puts : Puts (item_channel x) (x ∷ []) qs new) where
   less : Each (λ (z : Item). z.number < x.number) (joined qs)
@@ -89,6 +103,19 @@ kept_more qs count more oldest le kept = record {
   where
     up : (z : Item) → z.number ≤ count → z.number ≤ more
     up z below = omega (arith, le)
+
+-- none was appended before an earlier moment either
+pub kept_lower : (qs : List Queue) (count oldest since : ℕ) → AreKept qs count oldest → AreKept qs count (min oldest since)
+kept_lower qs count oldest since kept = record {
+  each = kept.each;
+  apart = kept.apart;
+  numbered = kept.numbered;
+  young = each_weaker (λ (z : Item). oldest ≤ z.since) (λ (z : Item). min oldest since ≤ z.since) (λ z le. lower z le) (joined qs) kept.young;
+  few = kept.few;
+}
+  where
+    lower : (z : Item) → oldest ≤ z.since → min oldest since ≤ z.since
+    lower z le = omega arith
 
 pub puts_as : (qs new : List Queue) (channel : Option ℕ) (node : List Item) (x : Item) → channel ≡ item_channel x → node ≡ x ∷ [] → Puts channel node qs new → Puts (item_channel x) (x ∷ []) qs new
 puts_as qs new channel node x at is puts = subst (λ (l : List Item). Puts (item_channel x) l qs new) is (subst (λ (c : Option ℕ). Puts c node qs new) at puts)

@@ -4,3 +4,4 @@ pub mod LeastLemmas
 pub mod KeptLemmas
 pub mod DropLemmas
 pub mod StockLemmas
+pub mod LateLemmas

@@ -3,7 +3,8 @@ use Rattle.std.specs.Prelude.{◌≡◌, ◌≢◌, ℕ, ◌+◌, ◌<◌, ◌�
 use Rattle.std.specs.Prelude.{length, slice_index_or, take, Bool, if◌then◌else◌}
 use Rattle.std.specs.Prelude.{Option, Some, None, IsUtf8}
 use Rattle.std.specs.List.{AllByRecursion, flat_map}
-use Rattle.notify_outbox.specs.Items.{item_channel, request_id}
+use Rattle.m2m_value.specs.Shapes.{largest_count}
+use Rattle.notify_outbox.specs.Items.{item_channel, next_number, request_id}
 use Rattle.notify_outbox.specs.declared.item.Item.{Item}
 use Rattle.notify_outbox.specs.declared.queues.Queue.{Queue}
 
@@ -52,12 +53,26 @@ pub record AreKept (queues : List Queue) (count oldest : ℕ) : Type 0 where
   pub young : AllByRecursion (λ (x : Item). oldest ≤ x.since) (joined queues)
   pub few : length (joined queues) ≤ count
 
+-- ---- items that have the last number too
+
+-- each was appended no earlier than those before it
+abbrev pub DoFollow : List Item → Type 0
+DoFollow [] = Unit {0}
+DoFollow (x ∷ items) = AllByRecursion (λ (y : Item). x.since ≤ y.since) items × DoFollow items
+
+-- these were appended when the last number was given already, none before `oldest`
+pub record AreLate (late : List Item) (count oldest : ℕ) : Type 0 where
+  pub full : 0 < length late → count ≡ largest_count
+  pub order : DoFollow late
+  pub young : AllByRecursion (λ (x : Item). oldest ≤ x.since) late
+
 -- ---- what is in stock for items to come
 
--- the request identifiers of the numbers from this one on
+-- the request identifiers of the items that come after so many
 abbrev pub AreIds : ℕ → List (List ℕ) → Type 0
-AreIds number [] = Unit {0}
-AreIds number (id ∷ ids) = (id ≡ request_id number) × IsUtf8 id × AreIds (number + 1) ids
+AreIds count [] = Unit {0}
+AreIds count (id ∷ ids) =
+    (id ≡ request_id (next_number count)) × IsUtf8 id × AreIds (next_number count) ids
 
 -- ---- the place of the least first item
 

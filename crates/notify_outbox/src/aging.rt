@@ -19,8 +19,8 @@ fn is_old(items: &LinkedList<Item>, limit: u64) -> bool
     }
 }
 
-// Takes those from the front that were appended at this moment or before.
-fn drop_front(items: &mut LinkedList<Item>, limit: u64)
+/// Takes those from the front that were appended at this moment or before.
+pub(crate) fn drop_front(items: &mut LinkedList<Item>, limit: u64)
     ensures { items.new ≡ fresh limit items.old }
 {
     'front: while is_old(items, limit) {

@@ -1,4 +1,4 @@
-//! Copies of queues.
+//! Copies of items and queues.
 ghost use Rattle.std.specs.Prelude.{◌≡◌, IfOk};
 
 use crate::item::Item;
@@ -16,7 +16,11 @@ fn copied_item(alloc: Global, item: &Item) -> Result<Item, OutOfMemory>
     })
 }
 
-fn copied_items(alloc: Global, items: &LinkedList<Item>) -> Result<LinkedList<Item>, OutOfMemory>
+/// Equal items.
+pub(crate) fn copied_items(
+    alloc: Global,
+    items: &LinkedList<Item>,
+) -> Result<LinkedList<Item>, OutOfMemory>
     ensures { IfOk result (λ l. l ≡ items.now) }
 {
     let mut copies = LinkedList::new(alloc);

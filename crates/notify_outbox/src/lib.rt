@@ -14,7 +14,8 @@
 //!
 //! Inside, the items for each channel stand in a queue of their own, and so do those for none. So
 //! no take looks at more than the first item of each queue, and nothing is moved. The list that
-//! callers see is that of all queues together, by number.
+//! callers see is that of all queues together, by number. Numbers rise to 2^63 - 1 and stay there:
+//! items that come then stand behind all queues, in one list.
 //!
 //! ```text
 //! outbox.reserve(alloc, 1)?;              // before the first change of an operation
@@ -26,6 +27,7 @@
 mod aging;
 mod copying;
 mod item;
+mod late;
 mod numbering;
 mod outbox;
 mod places;

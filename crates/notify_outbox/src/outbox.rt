@@ -1,5 +1,5 @@
 //! The outbox.
-ghost use Rattle.std.specs.Prelude.{◌≡◌, ◌<◌, ◌≤◌, min, [], ◌∷◌, ◌++◌, length, find, IfOk, OnOk};
+ghost use Rattle.std.specs.Prelude.{◌≡◌, ◌+◌, ◌<◌, ◌≤◌, true, min, [], ◌∷◌, ◌++◌, length, find, IfOk, OnOk};
 ghost use Rattle.std.specs.Prelude.{OnErr, option_map};
 ghost use Rattle.m2m_value.specs.Shapes.{largest_count};
 ghost use Rattle.std.specs.List.{AllByRecursion};
@@ -7,13 +7,14 @@ ghost use Rattle.notify_outbox.specs.Items.{is_item, is_to_send, waits_for};
 ghost use Rattle.notify_outbox.specs.Outbox.{appended, dropped, first_note, taken};
 ghost use Rattle.notify_outbox.specs.declared.item.Item.{Item};
 
-use crate::aging::drop_until;
-use crate::copying::copied_queues;
+use crate::aging::{drop_front, drop_until};
+use crate::copying::{copied_items, copied_queues};
 use crate::item::Item;
+use crate::late::{late_for, late_to_send, take_late, take_late_for, take_late_to_send};
 use crate::numbering::{note_channel, under_id};
 use crate::places::{first_for, first_of_all, first_to_send};
-use crate::queues::{Queue, count_all, front_at, pop, put};
-use crate::stock::{next_id, node_of, stock_ids, stock_nodes};
+use crate::queues::{Queue, count_all, front_at, join_items, pop, put};
+use crate::stock::{LAST_NUMBER, next_id, node_of, stock_ids, stock_nodes};
 use m2m_value::Text;
 use primitive_json::Note;
 use std::alloc::{AllocError as OutOfMemory, Global};
@@ -24,13 +25,12 @@ use tree_model::Tree;
 /// For how long an item is kept, in seconds.
 pub const KEEPING_TIME: u64 = 86400;
 
-// The last number of an item.
-const LAST_NUMBER: u64 = 9_223_372_036_854_775_807;
-
 /// The items that wait to be sent or polled.
 #[derive(Drop)]
 pub struct Outbox {
     queues: Vec<Queue>,
+    // Those that have the last number, but for the first of them, which is in its queue.
+    late: LinkedList<Item>,
     // No item was appended before this moment.
     oldest: u64,
     // How many items were ever numbered.
@@ -41,7 +41,7 @@ pub struct Outbox {
 }
 
 impl Model for Outbox {
-    ghost use Rattle.std.specs.Prelude.{◌+◌, ◌≤◌, length, vec_capacity};
+    ghost use Rattle.std.specs.Prelude.{◌+◌, ◌≤◌, ◌++◌, length, vec_capacity};
     ghost use Rattle.m2m_value.specs.Code.{data_code};
     ghost use Rattle.std.specs.Coded.{codes};
     ghost use Rattle.notify_outbox.specs.Outbox.{OutboxData};
@@ -51,25 +51,47 @@ impl Model for Outbox {
     ghost coded = { Prim.hlevel (codes, data_code) };
 
     ghost use Rattle.m2m_value.specs.Shapes.{largest_count};
-    ghost use Rattle.notify_outbox.specs.Queues.{joined, in_order, AreKept, AreIds};
+    ghost use Rattle.notify_outbox.specs.Queues.{joined, in_order, AreKept, AreIds, AreLate};
 
     ghost view = { λ o. record {
-      items = in_order (joined o.queues.items);
+      items = in_order (joined o.queues.items) ++ o.late;
       count = o.count;
       room = length o.nodes;
     } };
 
     ghost invariant = { λ o. AreKept o.queues.items o.count o.oldest
-        × AreIds (o.count + 1) o.ids.items
+        × AreIds o.count o.ids.items
         × (length o.nodes ≤ length o.ids.items)
-        × (o.count + length o.nodes ≤ largest_count)
-        × (length o.queues.items + length o.nodes ≤ vec_capacity o.queues) };
+        × (length (joined o.queues.items) + length o.late + length o.nodes ≤ largest_count)
+        × (length o.queues.items + length o.nodes ≤ vec_capacity o.queues)
+        × (o.count ≤ largest_count)
+        × AreLate o.late o.count o.oldest };
 }
 
 fn least_of(a: u64, b: u64) -> u64
     ensures { result ≡ min a b }
 {
     a.min(b)
+}
+
+// The note of an item that was taken.
+fn note_of(item: Option<Item>) -> Option<Note>
+    ensures { result ≡ option_map (λ (i : Item). i.note) item }
+{
+    match item {
+        Some(item) => Some(item.note),
+        None => None,
+    }
+}
+
+// The note of an item, where there is one.
+fn noted(item: Option<&Item>) -> Option<&Note>
+    ensures { option_map (λ n. n.now) result ≡ option_map (λ i. i.now.note) item.entry }
+{
+    match item {
+        Some(item) => Some(&item.note),
+        None => None,
+    }
 }
 
 impl Outbox {
@@ -79,6 +101,7 @@ impl Outbox {
     {
         Outbox {
             queues: Vec::new(alloc),
+            late: LinkedList::new(alloc),
             oldest: 0,
             count: 0,
             ids: VecDeque::new(alloc),
@@ -93,7 +116,7 @@ impl Outbox {
         ensures items { self.new.items ≡ self.old.items }
         ensures count { self.new.count ≡ self.old.count }
     {
-        if LAST_NUMBER - self.count < n {
+        if !self.can_hold(n) {
             return Err(OutOfMemory);
         }
         if n <= self.nodes.len() as u64 {
@@ -104,11 +127,32 @@ impl Outbox {
         stock_nodes(alloc, &mut self.nodes, n)
     }
 
+    // Whether there can be so many items more: no memory is for more than 2^63 - 1.
+    fn can_hold(&self, n: u64) -> bool
+        ensures { result ≡ true → length self.now.items + n ≤ largest_count }
+    {
+        n <= LAST_NUMBER - self.count || n <= LAST_NUMBER - self.len()
+    }
+
     /// Appends a note at a moment, which isn't before that of any item; its request gets the next
     /// number as its identifier. No memory is taken.
     pub fn append(&mut self, note: Note, since: u64)
         requires room { 0 < self.old.room }
         requires order { AllByRecursion (λ (i : Item). i.since ≤ since) self.old.items }
+        ensures { self.new ≡ appended note since self.old }
+    {
+        if self.count < LAST_NUMBER {
+            self.append_next(note, since);
+        } else {
+            self.append_late(note, since);
+        }
+    }
+
+    // Appends it under a number that no item had before.
+    fn append_next(&mut self, note: Note, since: u64)
+        requires room { 0 < self.old.room }
+        requires order { AllByRecursion (λ (i : Item). i.since ≤ since) self.old.items }
+        requires more { self.old.count < largest_count }
         ensures { self.new ≡ appended note since self.old }
     {
         let number = self.count + 1;
@@ -127,15 +171,32 @@ impl Outbox {
         self.oldest = oldest;
     }
 
+    // Appends it under the last number, which was given already.
+    fn append_late(&mut self, note: Note, since: u64)
+        requires room { 0 < self.old.room }
+        requires order { AllByRecursion (λ (i : Item). i.since ≤ since) self.old.items }
+        requires full { self.old.count ≡ largest_count }
+        ensures { self.new ≡ appended note since self.old }
+    {
+        let id = next_id(&mut self.ids);
+        let known = under_id(note, id);
+        let item = Item {
+            number: LAST_NUMBER,
+            since,
+            note: known,
+        };
+        let node = node_of(&mut self.nodes, item);
+        join_items(&mut self.late, node);
+        let oldest = least_of(self.oldest, since);
+        self.oldest = oldest;
+    }
+
     /// Takes the first item that isn't for a polling channel of the tree.
     pub fn take_next<T: Tree>(&mut self, tree: &T) -> Option<Note>
         ensures note { result ≡ first_note (is_to_send (T.nodes tree.now)) self.old }
         ensures rest { self.new ≡ taken (is_to_send (T.nodes tree.now)) self.old }
     {
-        match first_to_send(&self.queues, tree) {
-            Some(best) => Some(pop(&mut self.queues, best.0).note),
-            None => None,
-        }
+        note_of(self.take_item_to_send(tree))
     }
 
     /// Takes the first item, wherever it leads.
@@ -143,10 +204,15 @@ impl Outbox {
         ensures note { result ≡ first_note is_item self.old }
         ensures rest { self.new ≡ taken is_item self.old }
     {
-        match first_of_all(&self.queues) {
-            Some(best) => Some(pop(&mut self.queues, best.0).note),
-            None => None,
-        }
+        note_of(self.take_item())
+    }
+
+    /// Takes the first item for a polling channel.
+    pub fn take_for(&mut self, channel: u64) -> Option<Note>
+        ensures note { result ≡ first_note (waits_for channel) self.old }
+        ensures rest { self.new ≡ taken (waits_for channel) self.old }
+    {
+        note_of(self.take_item_for(channel))
     }
 
     /// Takes the first item, wherever it leads, with its number and its moment.
@@ -156,18 +222,29 @@ impl Outbox {
     {
         match first_of_all(&self.queues) {
             Some(best) => Some(pop(&mut self.queues, best.0)),
-            None => None,
+            None => take_late(&mut self.late),
         }
     }
 
-    /// Takes the first item for a polling channel.
-    pub fn take_for(&mut self, channel: u64) -> Option<Note>
-        ensures note { result ≡ first_note (waits_for channel) self.old }
+    // The same for a polling channel.
+    fn take_item_for(&mut self, channel: u64) -> Option<Item>
+        ensures item { result ≡ find (waits_for channel) self.old.items }
         ensures rest { self.new ≡ taken (waits_for channel) self.old }
     {
         match first_for(&self.queues, channel) {
-            Some(best) => Some(pop(&mut self.queues, best.0).note),
-            None => None,
+            Some(best) => Some(pop(&mut self.queues, best.0)),
+            None => take_late_for(&mut self.late, channel),
+        }
+    }
+
+    // The same for no polling channel of the tree.
+    fn take_item_to_send<T: Tree>(&mut self, tree: &T) -> Option<Item>
+        ensures item { result ≡ find (is_to_send (T.nodes tree.now)) self.old.items }
+        ensures rest { self.new ≡ taken (is_to_send (T.nodes tree.now)) self.old }
+    {
+        match first_to_send(&self.queues, tree) {
+            Some(best) => Some(pop(&mut self.queues, best.0)),
+            None => take_late_to_send(&mut self.late, tree),
         }
     }
 
@@ -183,6 +260,7 @@ impl Outbox {
             return;
         }
         drop_until(&mut self.queues, limit);
+        drop_front(&mut self.late, limit);
         self.oldest = limit + 1;
     }
 
@@ -190,7 +268,7 @@ impl Outbox {
     pub fn len(&self) -> u64
         ensures { result ≡ length self.now.items }
     {
-        count_all(&self.queues)
+        count_all(&self.queues) + self.late.len() as u64
     }
 
     /// How many items were ever numbered.
@@ -207,7 +285,7 @@ impl Outbox {
     {
         match first_for(&self.queues, channel) {
             Some(best) => Some(&front_at(&self.queues, best.0).note),
-            None => None,
+            None => noted(late_for(&self.late, channel)),
         }
     }
 
@@ -218,7 +296,7 @@ impl Outbox {
     {
         match first_to_send(&self.queues, tree) {
             Some(best) => Some(front_at(&self.queues, best.0)),
-            None => None,
+            None => late_to_send(&self.late, tree),
         }
     }
 
@@ -228,6 +306,7 @@ impl Outbox {
     {
         Ok(Outbox {
             queues: copied_queues(alloc, &self.queues)?,
+            late: copied_items(alloc, &self.late)?,
             oldest: self.oldest,
             count: self.count,
             ids: VecDeque::new(alloc),

@@ -21,7 +21,8 @@ fn better(best: Option<(usize, u64)>, place: usize, queue: &Queue) -> Option<(us
     }
 }
 
-fn is_numbered(channel: Option<u64>, number: u64) -> bool
+/// Whether it is the channel of a number.
+pub(crate) fn is_numbered(channel: Option<u64>, number: u64) -> bool
     ensures { result ≡ is_numbered number channel }
 {
     match channel {
@@ -30,8 +31,8 @@ fn is_numbered(channel: Option<u64>, number: u64) -> bool
     }
 }
 
-// It isn't a polling channel of the tree.
-fn is_open<T: Tree>(channel: Option<u64>, tree: &T) -> bool
+/// Whether it isn't a polling channel of the tree.
+pub(crate) fn is_open<T: Tree>(channel: Option<u64>, tree: &T) -> bool
     ensures { result ≡ is_open (T.nodes tree.now) channel }
 {
     match channel {

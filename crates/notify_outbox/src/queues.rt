@@ -34,14 +34,22 @@ fn place_of(queues: &[Queue], channel: Option<u64>) -> Option<usize>
     None
 }
 
+/// Puts items behind others. No memory is taken.
+pub(crate) fn join_items(items: &mut LinkedList<Item>, behind: LinkedList<Item>)
+    requires { length items.old + length behind < 2 ^ 63 }
+    ensures { items.new ≡ items.old ++ behind }
+{
+    let mut behind = behind;
+    let _joined = items.append(&mut behind);
+}
+
 // Puts items behind those of a queue.
 fn join(queue: &mut Queue, node: LinkedList<Item>)
     requires { length queue.old.items + length node < 2 ^ 63 }
     ensures channel { queue.new.channel ≡ queue.old.channel }
     ensures items { queue.new.items ≡ queue.old.items ++ node }
 {
-    let mut node = node;
-    let _joined = queue.items.append(&mut node);
+    join_items(&mut queue.items, node);
 }
 
 // Puts items behind those of the queue at a place.

@@ -1,6 +1,7 @@
 //! What is in stock for items to come: request identifiers, and nodes of queues.
 ghost use Rattle.std.specs.Prelude.{◌≡◌, ◌+◌, ◌<◌, ◌≤◌, ◌^◌, [], ◌∷◌, length, IsUtf8, OnOk, IfOk};
 ghost use Rattle.m2m_value.specs.Shapes.{largest_count};
+ghost use Rattle.notify_outbox.specs.Items as spec;
 ghost use Rattle.notify_outbox.specs.Queues.{AreIds};
 
 use crate::item::Item;
@@ -11,28 +12,40 @@ use resource_model::numbered;
 use std::alloc::{AllocError as OutOfMemory, Global};
 use std::collections::{LinkedList, VecDeque};
 
+/// The last number of an item.
+pub(crate) const LAST_NUMBER: u64 = 9_223_372_036_854_775_807;
+
 fn count_of(ids: &VecDeque<Text>) -> u64
     ensures { result ≡ length ids.now.items }
 {
     ids.len() as u64
 }
 
-/// Request identifiers for so many items, the first of which has the number behind the count.
+/// The number of the item that comes after so many; the last number stays.
+pub(crate) fn next_number(count: u64) -> u64
+    requires { count + 1 < 2 ^ 64 }
+    ensures { result ≡ spec.next_number count }
+{
+    (count + 1).min(LAST_NUMBER)
+}
+
+/// Request identifiers for so many items that come after a count.
 pub(crate) fn stock_ids(
     alloc: Global,
     ids: &mut VecDeque<Text>,
     count: u64,
     wanted: u64,
 ) -> Result<(), OutOfMemory>
-    requires ids { AreIds (count + 1) ids.old.items }
-    requires top { count + wanted ≤ largest_count }
-    ensures ids { AreIds (count + 1) ids.new.items }
+    requires ids { AreIds count ids.old.items }
+    requires count { count ≤ largest_count }
+    requires wanted { wanted ≤ largest_count }
+    ensures ids { AreIds count ids.new.items }
     ensures enough { OnOk result (wanted ≤ length ids.new.items) }
     ensures more { length ids.old.items ≤ length ids.new.items }
 {
     'more: while count_of(ids) < wanted {
         let have = count_of(ids);
-        let id = numbered(alloc, "n", "", count + 1 + have)?;
+        let id = numbered(alloc, "n", "", next_number(count + have))?;
         ids.push_back(id)?;
     }
     Ok(())

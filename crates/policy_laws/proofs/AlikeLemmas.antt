@@ -2,7 +2,7 @@
 use Rattle.policy_laws.proofs.Words.{◌==◌, ◌≡◌, ℕ, List, [], ◌∷◌, ◌++◌, map, Bool, true, false, Option, Some, None, inl, inr, refl, sym, ap, subst, ◌∙◌, arith, cond, bit_or, AllZip, cons_option, flat_map, list_all, option_and_then, option_map_or, option_or}
 use Rattle.policy_laws.proofs.Terms.{ty_row, Attr, Acpi, Aei, Csi, Macp, Pv, Pvs, id_parts, Ty, AccessControlPolicy, Ae, ContentInstance, PollingChannel, RemoteCse, Data, as_text, is_attr, value_of, HomeData, ResourceData, is_ty, has_number, ae_id, cse_id, at, has, is_child, child_of, of_type, replaced, resource_number, resource_of_id, stays, staying, typed_at, without, all_bits, is_attr_in, only, Rule, rule_for, rules_in, policy_named, policy_of, policies_of, rules_by, listed_in, ids_at, lists_ids, registree, linked_rules, channel_rules, rules_of, fan_rules, link_rules, is_subject, with_rule, with_rules, bits_by, do_give, update_bit, grants, relinks, fan_grants}
 use Rattle.policy_laws.proofs.Facts.{cases_Bool, and_parts, eqb-true, or_left, or_right, cond_both, list_any-append, AllZip-push, bit_at_or, bit_at-zero, same_from_bits}
-use Rattle.policy_laws.specs.Alike.{id_attrs, told_attrs, shape_attrs, Alike, AreAlike, FindAlike}
+use Rattle.equal_sights.specs.Alike.{id_attrs, told_attrs, shape_attrs, Alike, AreAlike, FindAlike}
 use Rattle.policy_laws.proofs.ChoiceLemmas.{both_chosen, same_chosen}
 use Rattle.policy_laws.proofs.UnionLemmas.{with_rules-append}
 

@@ -2,9 +2,9 @@
 use Rattle.policy_laws.proofs.Words.{nat_lt, ◌≡◌, ℕ, ◌<◌, List, [], ◌∷◌, ◌++◌, map, Bool, true, false, ◌&&◌, ◌||◌, Option, Some, None, is_some, inl, inr, refl, sym, ap, ◌∙◌, subst, arith, list_any, option_and_then, option_map_or, option_or}
 use Rattle.policy_laws.proofs.Terms.{Acpi, Macp, id_parts, Ty, AccessControlPolicy, Container, ContentInstance, Group, Data, as_text, value_of, HomeData, ResourceData, is_ty, has_number, at, due, due_under, fits_in, is_well_formed, of_type, typed_at, listed_in, fan_rules, policy_named, policy_of, bits_by, has_bits, update_bit}
 use Rattle.policy_laws.proofs.Facts.{cases_Bool, both_ways, and_from, and_parts, or_cases, or_left, or_right, or_parts, ne_eqb, map-append, same_Some, IsNext, below_has, grows-append, next_fits, stands, tree_from_well_formed, FitsIn, fits_parts, at-append, at_has, at_number, option_or-None, due_plain}
-use Rattle.policy_laws.specs.Alike.{Alike, AreAlike, FindAlike}
+use Rattle.equal_sights.specs.Alike.{Alike, AreAlike, FindAlike}
 use Rattle.policy_laws.specs.Changes.{is_id_of, does_link, is_linked, learns_limits}
-use Rattle.policy_laws.specs.Seen.{create_bit, retrieve_bit, has_bit, fills, is_filled_in, seen, seen_list}
+use Rattle.equal_sights.specs.Seen.{create_bit, retrieve_bit, has_bit, fills, is_filled_in, seen, seen_list}
 use Rattle.policy_laws.proofs.AlikeLemmas.{alike_itself, append-alike, at-alike, fan_rules-alike, map_from_zip, rules-alike, ty-alike}
 use Rattle.policy_laws.proofs.DueLemmas.{in_container, same_fill, same_may}
 use Rattle.policy_laws.proofs.EqualLemmas.{same_alike}

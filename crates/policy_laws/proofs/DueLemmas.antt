@@ -4,8 +4,8 @@ use Rattle.policy_laws.proofs.Terms.{does_take, ty_row, Attr, Mia, Pv, Ty, Conta
 use Rattle.policy_laws.proofs.Facts.{cases_Bool, both_ways, and_left, and_right, or_cases, or_from, or_left, or_parts, or_right, cond_both, cond-true, cond-false, eqb-true, list_any-append, tree_from_well_formed, at-map, number_passes, all_taken}
 use Rattle.std.proofs.Common.{◌==◌}
 use Rattle.m2m_value.specs.Shapes.{as_count}
-use Rattle.policy_laws.specs.Alike.{AreAlike, id_attrs, told_attrs, shape_attrs}
-use Rattle.policy_laws.specs.Seen.{retrieve_bit, has_bit, fills, is_filled_in, is_shown, seen_ct, seen_et, with_seen_owner, seen, seen_list}
+use Rattle.equal_sights.specs.Alike.{AreAlike, id_attrs, told_attrs, shape_attrs}
+use Rattle.equal_sights.specs.Seen.{retrieve_bit, has_bit, fills, is_filled_in, is_shown, seen_ct, seen_et, with_seen_owner, seen, seen_list}
 use Rattle.policy_laws.proofs.AlikeLemmas.{id_attrs_hold, without-zip, zip-map, map_from_zip, grants-alike, relinks-alike, fan_grants-alike}
 use Rattle.policy_laws.proofs.RemovalLemmas.{keeps_without, grants_before}
 use Rattle.policy_laws.proofs.SeenLemmas.{at-seen, seen_map_alike, seen_shows}

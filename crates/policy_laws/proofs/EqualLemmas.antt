@@ -2,8 +2,8 @@
 use Rattle.policy_laws.proofs.Words.{nat_lt, ◌≡◌, ℕ, List, Bool, true, false, ◌&&◌, ◌||◌, map, Option, Some, None, option_map, refl, sym, ap, ◌∙◌, option_map_or}
 use Rattle.policy_laws.proofs.Terms.{Attr, Poa, Pv, Pvs, Ty, AccessControlPolicy, Container, ContentInstance, Group, RemoteCse, value_of, HomeData, ResourceData, is_ty, at, has, is_same, is_attr_in, rules_in, fan_rules, bits_by, has_bits}
 use Rattle.policy_laws.proofs.Facts.{same_Some, at-map, has-map}
-use Rattle.policy_laws.specs.Alike.{Alike, shape_attrs}
-use Rattle.policy_laws.specs.Seen.{create_bit, update_bit, retrieve_bit, discovery_bit, has_bit, fills, is_filled_in, may_use, found_attrs, limit_attrs, size_attrs, member_attrs, is_shown, is_policy_rules, is_way, way_in, seen, seen_list, Shows}
+use Rattle.equal_sights.specs.Alike.{Alike, shape_attrs}
+use Rattle.equal_sights.specs.Seen.{create_bit, update_bit, retrieve_bit, discovery_bit, has_bit, fills, is_filled_in, may_use, found_attrs, limit_attrs, size_attrs, member_attrs, is_shown, is_policy_rules, is_way, way_in, seen, seen_list, Shows}
 use Rattle.policy_laws.proofs.AlikeLemmas.{rules-alike, fan_rules-alike}
 use Rattle.policy_laws.proofs.SeenLemmas.{at-seen, seen_alike, seen_map_alike, seen_shows}
 

@@ -15,3 +15,5 @@ pub mod AppendLemmas
 pub mod ReplaceLemmas
 pub mod ShapeLemmas
 pub mod RecountLemmas
+pub mod ShapeAlikeLemmas
+pub mod ShapeKeptLemmas

@@ -2,8 +2,8 @@
 use Rattle.policy_laws.proofs.Words.{nat_lt, unwrap_or, ◌≡◌, ℕ, List, [], ◌∷◌, ◌++◌, length, Bool, false, cond, ◌&&◌, ◌||◌, Option, Some, None, option_map, refl, sym, ap, ◌∙◌, cons_option, filter_map, flat_map, list_any, option_map_or}
 use Rattle.policy_laws.proofs.Terms.{Attr, Acpi, Macp, Poa, Pv, Pvs, Ty, AccessControlPolicy, Container, ContentInstance, Group, PollingChannel, RemoteCse, Data, Row, is_attr, value_of, HomeData, ResourceData, is_ty, at, due, all_bits, is_attr_in, only, Rule, rule_for, rules_in, policy_of, policies_of, rules_by, listed_in, ids_at, linked_ids, owner_rules, registree, linked_rules, channel_rules, rules_of, fan_rules, bits_by, has_bits}
 use Rattle.policy_laws.proofs.Facts.{list_any-append, or_parts}
-use Rattle.policy_laws.specs.Alike.{shape_attrs}
-use Rattle.policy_laws.specs.Seen.{create_bit, update_bit, retrieve_bit, discovery_bit, has_bit, fills, is_filled_in, may_use, found_attrs, limit_attrs, size_attrs, member_attrs, is_shown, seen_value, seen_row, seen_owner, seen, is_policy_rules, is_way}
+use Rattle.equal_sights.specs.Alike.{shape_attrs}
+use Rattle.equal_sights.specs.Seen.{create_bit, update_bit, retrieve_bit, discovery_bit, has_bit, fills, is_filled_in, may_use, found_attrs, limit_attrs, size_attrs, member_attrs, is_shown, seen_value, seen_row, seen_owner, seen, is_policy_rules, is_way}
 use Rattle.policy_laws.proofs.ChoiceLemmas.{both_chosen}
 use Rattle.policy_laws.proofs.TwiceLemmas.{made, value_by}
 

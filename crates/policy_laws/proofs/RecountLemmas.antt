@@ -4,7 +4,7 @@ use Rattle.policy_laws.proofs.Terms.{Attr, Acpi, Aei, Csi, Exc, Macp, Pv, Pvs, A
 use Rattle.policy_laws.proofs.Facts.{same_Some, map-map, tree_from_well_formed, at-map, at_number}
 use Rattle.tree_model.proofs.MarkLemmas.{due_below, exc_aside, other_kept}
 use Rattle.policy_laws.specs.Changes.{CountsSubscriptions, counted_anew, with_change}
-use Rattle.policy_laws.specs.Seen.{retrieve_bit, discovery_bit, has_bit, is_filled_in, is_shown, seen_value, seen_row, seen_owner, seen, seen_list}
+use Rattle.equal_sights.specs.Seen.{retrieve_bit, discovery_bit, has_bit, is_filled_in, is_shown, seen_value, seen_row, seen_owner, seen, seen_list}
 use Rattle.policy_laws.proofs.AlikeLemmas.{map_from_zip, same_ids, told_in_shape}
 use Rattle.policy_laws.proofs.LookupLemmas.{FindSame, FindsSame, JudgeSame, MaySame, filter_map_same, judge_itself, may_the_same, row_same, seen_found}
 use Rattle.policy_laws.proofs.ReplaceLemmas.{change_seen, finds_same, kept_row, no_id}

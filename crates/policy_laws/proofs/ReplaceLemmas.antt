@@ -4,7 +4,7 @@ use Rattle.policy_laws.proofs.Terms.{Attr, Acpi, Aei, Csi, Macp, Mia, Pv, Pvs, i
 use Rattle.policy_laws.proofs.Facts.{list_any-append, cases_Bool, both_ways, and_from, eq-eqb, eqb-true, or_from, or_left, or_parts, or_right, filter_map-append, same_Some, is_attr-itself, is_attr-same, value-with_value_other, value-without_value_other, tree_from_well_formed, at-replaced, at-replaced_other, at_has, at_number, map-replaced, number_passes, due_plain, all_taken}
 use Rattle.std.specs.List.{filter}
 use Rattle.policy_laws.specs.Changes.{NewValue, ShowNoMore, changed, do_judge, do_reach, does_judge, seen_changes, with_change, with_changes}
-use Rattle.policy_laws.specs.Seen.{retrieve_bit, discovery_bit, has_bit, fills, is_filled_in, may_use, seen_value, seen_row, seen_owner, seen, seen_list}
+use Rattle.equal_sights.specs.Seen.{retrieve_bit, discovery_bit, has_bit, fills, is_filled_in, may_use, seen_value, seen_row, seen_owner, seen, seen_list}
 use Rattle.policy_laws.proofs.ChoiceLemmas.{both_chosen, same_chosen}
 use Rattle.policy_laws.proofs.AlikeLemmas.{cse_named, map_from_zip, same_ids}
 use Rattle.policy_laws.proofs.DueLemmas.{due_base, due_instance, due_other, end_of, in_container, same_fill}
@@ -26,7 +26,7 @@ any_fewer p q fewer (x ∷ xs) none =
     or_from _ _ (fewer x parts.0) (any_fewer p q fewer xs parts.1)
 
 -- one of the changes is of this attribute
-abbrev is_changed : List NewValue → Attr → Bool
+abbrev pub is_changed : List NewValue → Attr → Bool
 is_changed changes b = list_any (λ (c : NewValue). is_attr c.0 b) changes
 
 attr_apart : (a b : Attr) → is_attr a b ≡ false → b ≢ a
@@ -36,7 +36,7 @@ change_kept : (a b : Attr) (x : Option Data) (rows : List Row) → is_attr a b �
 change_kept a b None rows other = value-without_value_other a b rows (attr_apart a b other)
 change_kept a b (Some d) rows other = value-with_value_other a b d rows (attr_apart a b other)
 
-changes_kept : (b : Attr) (changes : List NewValue) → is_changed changes b ≡ false → (rows : List Row) → value_of b (with_changes changes rows) ≡ value_of b rows
+pub changes_kept : (b : Attr) (changes : List NewValue) → is_changed changes b ≡ false → (rows : List Row) → value_of b (with_changes changes rows) ≡ value_of b rows
 changes_kept b [] none rows = refl
 changes_kept b (c ∷ changes) none rows =
     let parts = or_parts (is_attr c.0 b) (is_changed changes b) none in
@@ -77,7 +77,7 @@ change_seen h a (Some d) rows =
     by_kept None = refl
     by_kept (Some d) = refl
 
-abbrev changes_by : (Attr → Data → Option Data) → List NewValue → List NewValue
+abbrev pub changes_by : (Attr → Data → Option Data) → List NewValue → List NewValue
 changes_by h changes = map (λ (c : NewValue). (c.0, option_and_then (h c.0) c.1)) changes
 
 -- they are of the same attributes
@@ -85,7 +85,7 @@ changes_test : (h : Attr → Data → Option Data) (p : Attr → Bool) (changes 
 changes_test h p [] = refl
 changes_test h p (c ∷ changes) = ap (λ b. p c.0 || b) (changes_test h p changes)
 
-changes_seen : (h : Attr → Data → Option Data) (changes : List NewValue) (rows : List Row) → filter_map (kept_row h) (with_changes changes rows) ≡ with_changes (changes_by h changes) (filter_map (kept_row h) rows)
+pub changes_seen : (h : Attr → Data → Option Data) (changes : List NewValue) (rows : List Row) → filter_map (kept_row h) (with_changes changes rows) ≡ with_changes (changes_by h changes) (filter_map (kept_row h) rows)
 changes_seen h [] rows = refl
 changes_seen h (c ∷ changes) rows =
     changes_seen h changes (with_change c.0 c.1 rows) ∙ ap (with_changes (changes_by h changes)) (change_seen h c.0 c.1 rows)

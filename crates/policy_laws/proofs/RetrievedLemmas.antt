@@ -3,7 +3,7 @@ use Rattle.policy_laws.proofs.Words.{unwrap_or, ◌≡◌, ℕ, ◌+◌, List, [
 use Rattle.policy_laws.proofs.Terms.{Cs, Container, ContentInstance, CseBase, Row, count_at, HomeData, ResourceData, is_ty, id_of, at, is_due, is_instance, is_well_formed, live, instance_size, grants}
 use Rattle.policy_laws.proofs.Facts.{cases_Bool, length-map, at-map, at_number, kin_parts, tree_from_well_formed}
 use Rattle.tree_model.specs.Shown.{parent_id, container_rows, added_rows, attributes_of, with_rows, wrapped}
-use Rattle.policy_laws.specs.Seen.{retrieve_bit, has_bit, with_seen_owner, seen, seen_list}
+use Rattle.equal_sights.specs.Seen.{retrieve_bit, has_bit, with_seen_owner, seen, seen_list}
 use Rattle.policy_laws.proofs.ChoiceLemmas.{both_chosen, filter_image}
 use Rattle.policy_laws.proofs.RemovalLemmas.{keeps_without}
 use Rattle.policy_laws.proofs.SeenLemmas.{seen_shows}

@@ -8,8 +8,8 @@ use Rattle.std.specs.List.Sorted.{IsStrictlySortedBy}
 use Rattle.std.specs.Map.{keys_of}
 use Rattle.std.specs.Prelude.{pos}
 use Rattle.std.specs.declared.cmp.Ordering.TheVariants.{Less}
-use Rattle.policy_laws.specs.Alike.{shape_attrs, Alike, AreAlike}
-use Rattle.policy_laws.specs.Seen.{is_url, first_url, only_point, seen_points, way_in, retrieve_bit, discovery_bit, has_bit, fills, is_filled_in, may_use, found_attrs, limit_attrs, size_attrs, member_attrs, Shows, is_shown, plain_rules, seen_rules, is_policy_rules, is_way, seen_value, another, seen_owner, seen_ct, seen_lt, seen_et, seen, seen_list}
+use Rattle.equal_sights.specs.Alike.{shape_attrs, Alike, AreAlike}
+use Rattle.equal_sights.specs.Seen.{is_url, first_url, only_point, seen_points, way_in, retrieve_bit, discovery_bit, has_bit, fills, is_filled_in, may_use, found_attrs, limit_attrs, size_attrs, member_attrs, Shows, is_shown, plain_rules, seen_rules, is_policy_rules, is_way, seen_value, another, seen_owner, seen_ct, seen_lt, seen_et, seen, seen_list}
 use Rattle.policy_laws.proofs.AlikeLemmas.{GiveSame, same_itself, same_from_by, alike-map, child-alike, ae_id-alike, cse_id-alike, grants-alike, relinks-alike, fan_grants-alike}
 
 -- ---- values
@@ -28,7 +28,7 @@ value-shown h a k shown (row ∷ rows) = elim (cases_Bool (is_attr a row.0)) [
   | inr f ↦ skipped a row.0 (h row.0 row.1) _ f ∙ value-shown h a k shown rows ∙ rw f refl
 ]
 
-itself : {X : Type 0} (x : Option X) → option_map (λ (d : X). d) x ≡ x
+pub itself : {X : Type 0} (x : Option X) → option_map (λ (d : X). d) x ≡ x
 itself None = refl
 itself (Some d) = refl
 
@@ -63,11 +63,11 @@ plain_bits home o n small = rw (le-leb n all_bits (omega (arith, small))) (same_
 seen_same : (home : HomeData) (o : List ℕ) (d : Data) → GiveSame home o (rules_in (Some (seen_rules home o d))) (rules_in (Some d))
 seen_same home o d = same_from_by home o _ _ (plain_bits home o _ (bits_below home o (Some d)))
 
-shown_or : (s : Bool) (x y : Data) → cond s (Some x) (Some y) ≡ Some (cond s x y)
+pub shown_or : (s : Bool) (x y : Data) → cond s (Some x) (Some y) ≡ Some (cond s x y)
 shown_or true x y = refl
 shown_or false x y = refl
 
-policy_same : (home : HomeData) (o : List ℕ) (s : Bool) (v : Option Data) → GiveSame home o (rules_in (option_map (λ d. cond s d (seen_rules home o d)) v)) (rules_in v)
+pub policy_same : (home : HomeData) (o : List ℕ) (s : Bool) (v : Option Data) → GiveSame home o (rules_in (option_map (λ d. cond s d (seen_rules home o d)) v)) (rules_in v)
 policy_same home o s None = same_itself home o _
 policy_same home o true (Some d) = same_itself home o _
 policy_same home o false (Some d) = seen_same home o d
@@ -177,7 +177,7 @@ rows_kept : (h : Row → Option Row) → ((row : Row) → h row ≡ Some row) �
 rows_kept h kept [] = refl
 rows_kept h kept (row ∷ rows) = rw (kept row) (ap (λ (rest : List Row). row ∷ rest) (rows_kept h kept rows))
 
-hidden_row : (h : Attr → Data → Option Data) (a : Attr) → ((d : Data) → h a d ≡ None) → (rows : List Row) → value_of a (filter_map (λ (row : Row). option_map (λ (d : Data). (row.0, d)) (h row.0 row.1)) rows) ≡ None
+pub hidden_row : (h : Attr → Data → Option Data) (a : Attr) → ((d : Data) → h a d ≡ None) → (rows : List Row) → value_of a (filter_map (λ (row : Row). option_map (λ (d : Data). (row.0, d)) (h row.0 row.1)) rows) ≡ None
 hidden_row h a none [] = refl
 hidden_row h a none (row ∷ rows) = elim (cases_Bool (is_attr a row.0)) [
   | inl t ↦

@@ -2,9 +2,10 @@
 use Rattle.policy_laws.proofs.Words.{unwrap_or, ◌≡◌, ℕ, List, map, true, Option, Some, None, option_map, refl, sym, ap, ◌∙◌, option_and_then}
 use Rattle.policy_laws.proofs.Terms.{Attr, Data, HomeData, ResourceData, at, due, is_well_formed, is_attr_in}
 use Rattle.policy_laws.proofs.Facts.{or_left, map-map, tree_from_well_formed}
-use Rattle.policy_laws.specs.Alike.{shape_attrs}
-use Rattle.policy_laws.specs.Seen.{is_shown, is_policy_rules, is_way, seen_value, seen_row, seen_owner, seen, seen_list}
-use Rattle.policy_laws.specs.Shape.{shape_value, shape_row, shape_of, SightHasShape}
+use Rattle.equal_sights.specs.Alike.{shape_attrs}
+use Rattle.equal_sights.specs.Seen.{is_shown, is_policy_rules, is_way, seen_value, seen_row, seen_owner, seen, seen_list}
+use Rattle.policy_laws.specs.Laws.{SightHasShape}
+use Rattle.equal_sights.specs.Shape.{shape_value, shape_row, shape_of}
 use Rattle.policy_laws.proofs.AlikeLemmas.{map_from_zip}
 use Rattle.policy_laws.proofs.DueLemmas.{due-seen}
 use Rattle.policy_laws.proofs.TwiceLemmas.{made, owner_twice, twice_filtered, value_twice, zip-found}

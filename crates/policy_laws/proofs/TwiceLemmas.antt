@@ -4,7 +4,7 @@ use Rattle.policy_laws.proofs.Terms.{Attr, Data, Row, HomeData, ResourceData, at
 use Rattle.policy_laws.proofs.Facts.{cases_Bool, both_ways, and_from, and_parts, eq-eqb, or_cases, or_left, or_right, ltb-false, map-append, AllZip-push, bit_at-zero, same_from_bits, map-map, at-without, below_lacks, growth, next_fits, tree_from_well_formed, at-append, at-map, at_none}
 use Rattle.tree_model.proofs.KeptLemmas.{is_tree-without}
 use Rattle.tree_model.proofs.LiveLemmas.{at-without_parent, due-without}
-use Rattle.policy_laws.specs.Seen.{retrieve_bit, discovery_bit, create_bit, update_bit, has_bit, fills, is_filled_in, may_use, is_shown, is_url, first_url, only_point, plain_rules, seen_rules, seen_points, is_policy_rules, is_way, seen_value, seen_row, another, seen_owner, seen_ct, seen_lt, seen_et, seen, seen_list}
+use Rattle.equal_sights.specs.Seen.{retrieve_bit, discovery_bit, create_bit, update_bit, has_bit, fills, is_filled_in, may_use, is_shown, is_url, first_url, only_point, plain_rules, seen_rules, seen_points, is_policy_rules, is_way, seen_value, seen_row, another, seen_owner, seen_ct, seen_lt, seen_et, seen, seen_list}
 use Rattle.policy_laws.proofs.ChoiceLemmas.{found_where}
 use Rattle.policy_laws.proofs.AlikeLemmas.{without-zip, map_from_zip}
 use Rattle.policy_laws.proofs.UnionLemmas.{IsBelow, has_more}

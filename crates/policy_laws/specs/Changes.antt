@@ -9,14 +9,15 @@ use Rattle.m2m_names.specs.declared.attributes.Attr.TheVariants.{Acpi, Macp, Mia
 use Rattle.m2m_names.specs.declared.types.Ty.{Ty}
 use Rattle.m2m_names.specs.declared.types.Ty.TheVariants.{ContentInstance, Subscription}
 use Rattle.m2m_value.specs.Data.{Data}
-use Rattle.resource_model.specs.Attributes.{Row, with_value, without_value}
+use Rattle.resource_model.specs.Attributes.{Row, is_attr, with_value, without_value}
 use Rattle.resource_model.specs.Home.{HomeData}
 use Rattle.resource_model.specs.Resource.{ResourceData, is_ty}
 use Rattle.tree_model.specs.Tree.{at, recounted}
-use Rattle.policy_laws.specs.Alike.{id_attrs}
+use Rattle.equal_sights.specs.Alike.{id_attrs}
 use Rattle.policy_eval.specs.Rules.{is_attr_in, linked_ids, policy_of}
 use Rattle.policy_eval.specs.Rights.{create_bit, retrieve_bit, update_bit, grants}
-use Rattle.policy_laws.specs.Seen.{has_bit, seen_value}
+use Rattle.equal_sights.specs.Seen.{has_bit, seen_value}
+use Rattle.equal_sights.specs.Shape.{shape_value}
 
 -- the resource is a policy, and the id names it: so it does in a list of nothing else
 abbrev pub is_id_of : ResourceData → Data → Bool
@@ -90,6 +91,17 @@ pub record ShowNoMore (home : HomeData) (nodes : List ResourceData) (originator 
   pub other : is_ty r.ty ContentInstance ≡ false
   pub free : do_judge r.ty changes ≡ false
   pub reach : do_reach changes ≡ true → has_bit home nodes originator update_bit r ≡ true
+
+-- what the shape keeps of changes of a resource
+abbrev pub shape_changes : HomeData → List ℕ → ResourceData → List NewValue → List NewValue
+shape_changes home originator r changes =
+    map (λ c. (c.0, option_and_then (shape_value home originator r c.0) c.1)) changes
+
+-- The changes leave alone when other resources are due: the resource is no content instance, and
+-- none of them is of `mia`.
+pub record LeaveEnds (r : ResourceData) (changes : List NewValue) : Type 0 where
+  pub other : is_ty r.ty ContentInstance ≡ false
+  pub ends : list_any (λ c. is_attr c.0 Mia) changes ≡ false
 
 -- ---- subscriptions that are counted anew
 

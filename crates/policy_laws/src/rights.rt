@@ -3,7 +3,7 @@ ghost use Rattle.std.specs.Prelude.{◌≡◌, List, ℕ};
 ghost use Rattle.resource_model.specs.Home.{HomeData};
 ghost use Rattle.resource_model.specs.Resource.{ResourceData};
 ghost use Rattle.tree_model.specs.Tree.{has};
-ghost use Rattle.policy_laws.specs.Alike.{AreAlike};
+ghost use Rattle.equal_sights.specs.Alike.{AreAlike};
 ghost use Rattle.policy_laws.specs.Laws.{IsNeverGained};
 ghost use Rattle.policy_eval.specs.Rights.{grants, relinks, fan_grants};
 

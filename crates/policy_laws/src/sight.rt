@@ -6,8 +6,8 @@ ghost use Rattle.resource_model.specs.Resource.{ResourceData, ae_id};
 ghost use Rattle.tree_model.specs.Shown.{attributes_of};
 ghost use Rattle.tree_model.specs.Tree.{at, child_of, has, due, is_due, live, is_well_formed};
 ghost use Rattle.policy_eval.specs.Rights.{retrieve_bit, grants, relinks, fan_grants};
-ghost use Rattle.policy_laws.specs.Seen.{Shows, seen, seen_list, with_seen_owner};
-ghost use Rattle.policy_laws.specs.Shape.{SightHasShape};
+ghost use Rattle.equal_sights.specs.Seen.{Shows, seen, seen_list, with_seen_owner};
+ghost use Rattle.policy_laws.specs.Laws.{SightHasShape};
 
 /// The list as an originator sees it has of each resource what is always seen and what its rights
 /// show, and nothing else, and the originator finds the same on it and has the same rights. Always

@@ -6,5 +6,6 @@ pub mod InOrderLemmas
 pub mod JudgedLemmas
 pub mod NamingLemmas
 pub mod OrderLemmas
+pub mod PolicyLemmas
 pub mod RefusalLemmas
 pub mod RoomLemmas

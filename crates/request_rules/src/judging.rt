@@ -7,8 +7,7 @@ ghost use Rattle.tree_model.specs.Tree.{at, has};
 ghost use Rattle.entity_model.specs.Places.{first_fault};
 ghost use Rattle.entity_model.specs.Sound.{IsSoundEntity};
 ghost use Rattle.request_rules.specs.Asked.{creation_of};
-ghost use Rattle.request_rules.specs.Groups.{group_rows, membership_edited};
-ghost use Rattle.request_rules.specs.Judged.{IsCreateBy, IsCreateOf, IsUpdateOf, Judges};
+ghost use Rattle.request_rules.specs.Judged.{IsCreateBy, IsCreateOf, IsUpdateBy, IsUpdateOf, Judges};
 ghost use Rattle.request_rules.specs.Order as spec;
 ghost use Rattle.request_rules.specs.Requests as requests;
 
@@ -18,8 +17,8 @@ use crate::refusing::{judge_content, judge_creation, judge_edition};
 use crate::rights::{is_subscribing, may_do_on};
 use attribute_rules::{Writing, attributes_in};
 use entity_model::Entity;
-use m2m_names::{Attr, Op, Rsc, Ty};
-use m2m_value::{Members, Val};
+use m2m_names::{Op, Rsc, Ty};
+use m2m_value::Members;
 use primitive_json::Request;
 use std::alloc::{AllocError as OutOfMemory, Global};
 use tree_model::{Resource, Tree};
@@ -181,10 +180,8 @@ fn judge_named<'a, T: Tree>(
         (spec.fault_creation (creation_of entity.now originator.now ty parent.now named.now))
         (IsCreateBy entity.now ty parent.now named.now) }
 {
-    if let Some(fault) = judge_content(alloc, entity, Writing::Create, ty, named)? {
-        return Err(Refusal::Fault(fault));
-    }
-    judge_creation(alloc, entity, originator, ty, parent, named)
+    let links = judge_content(alloc, entity, Writing::Create, ty, named)?;
+    judge_creation(alloc, entity, originator, ty, parent, named, links)
 }
 
 // ---- an Update
@@ -246,28 +243,19 @@ fn judge_edit<'a, T: Tree>(
     let Some(named) = content_for(request, target.ty()) else {
         return Err(Refusal::Fault(Rsc::BadRequest));
     };
-    match judge_edits(alloc, entity, target, named) {
-        Ok(members) => Ok(AllowedUpdate {
-            target,
-            named,
-            members,
-        }),
-        Err(refusal) => Err(refusal),
-    }
+    judge_edits(alloc, entity, target, named)
 }
 
 // By the attributes that it names.
-fn judge_edits<T: Tree>(
+fn judge_edits<'a, T: Tree>(
     alloc: Global,
     entity: &Entity<T>,
-    target: &Resource,
-    named: &Members,
-) -> Result<Vec<(Attr, Val)>, Refusal>
+    target: &'a Resource,
+    named: &'a Members,
+) -> Result<AllowedUpdate<'a>, Refusal>
     ensures { Judges result (spec.fault_edit entity.now target.now named.now)
-        (λ rows. rows.items ≡ group_rows entity.now (membership_edited target.now named.now)) }
+        (IsUpdateBy entity.now target.now named.now) }
 {
-    if let Some(fault) = judge_content(alloc, entity, Writing::Update, target.ty(), named)? {
-        return Err(Refusal::Fault(fault));
-    }
-    judge_edition(alloc, entity, target, named)
+    let links = judge_content(alloc, entity, Writing::Update, target.ty(), named)?;
+    judge_edition(alloc, entity, target, named, links)
 }

@@ -32,13 +32,12 @@ mod refusing;
 mod rights;
 mod uniqueness;
 
-pub use allowed::{AllowedCreate, AllowedUpdate};
+pub use allowed::{AllowedCreate, AllowedUpdate, Links};
 pub use asking::{child_ty, find};
 pub use contents::expiry_for;
 pub use groups::{member_named, membership_edited, membership_new};
 pub use judging::{Refusal, judge_create, judge_target, judge_update};
 pub use membership::Membership;
 pub use naming::{new_ae_id, new_name, new_owner};
-pub use policies::{listed, policy_ids};
 pub use rights::{is_discovery, may_do};
 pub use std::alloc::AllocError as OutOfMemory;

@@ -1,10 +1,12 @@
 //! The policies that a content names, by addresses.
-ghost use Rattle.std.specs.Prelude.{◌≡◌, [], ◌∷◌, ◌++◌, IfOk, OnOk, is_some};
-ghost use Rattle.std.specs.Prelude.{option_and_then, option_map};
+ghost use Rattle.std.specs.Prelude.{◌≡◌, IfOk, IfSome, None, Some, is_some};
+ghost use Rattle.std.specs.Prelude.{if◌then◌else◌, option_and_then, option_map};
 ghost use Rattle.std.specs.List.{list_all};
 ghost use Rattle.addressing.specs.Laws.{spot_named};
+ghost use Rattle.request_rules.specs.Judged.{AreLinksOf};
 ghost use Rattle.request_rules.specs.Policies as spec;
 
+use crate::allowed::Links;
 use addressing::{AddrFault, Spot, name_spot, parse};
 use attribute_rules::value_named;
 use entity_model::Entity;
@@ -59,69 +61,47 @@ fn policy_meant<'a, T: Tree>(
 }
 
 /// The values that an attribute lists in a content.
-pub fn listed(attr: Attr, members: &Members) -> &[Val]
+pub(crate) fn listed(attr: Attr, members: &Members) -> &[Val]
     ensures { result.now ≡ spec.listed attr members.now }
 {
     listed_in(value_named(attr, members))
 }
 
-// Whether all of these lead to live policies.
-fn are_policies<T: Tree>(
+// The resource ids of the policies that these lead to, in order and with repeats, where each leads
+// to a live one.
+fn live_ids<T: Tree>(
     alloc: Global,
     entity: &Entity<T>,
     values: &[Val],
-) -> Result<bool, OutOfMemory>
-    ensures { IfOk result (λ b. b
-        ≡ list_all (λ d. is_some (spec.policy_meant entity.now d)) values.now) }
-{
-    for value in values {
-        if policy_meant(alloc, entity, value)?.is_none() {
-            return Ok(false);
-        }
-    }
-    Ok(true)
-}
-
-/// Whether whatever policies the content names are live.
-pub(crate) fn links_live<T: Tree>(
-    alloc: Global,
-    entity: &Entity<T>,
-    members: &Members,
-) -> Result<bool, OutOfMemory>
-    ensures { IfOk result (λ b. b ≡ spec.links_live entity.now members.now) }
-{
-    if !are_policies(alloc, entity, listed(Attr::Acpi, members))? {
-        return Ok(false);
-    }
-    are_policies(alloc, entity, listed(Attr::Macp, members))
-}
-
-fn push_id<T: Tree>(
-    alloc: Global,
-    entity: &Entity<T>,
-    value: &Val,
-    ids: &mut Vec<Val>,
-) -> Result<(), OutOfMemory>
-    ensures { OnOk result
-        (ids.new.items ≡ ids.old.items ++ spec.policy_ids entity.now (value.now ∷ [])) }
-{
-    if let Some(policy) = policy_meant(alloc, entity, value)? {
-        ids.push(Val::of_text(policy.id(alloc)?))?;
-    }
-    Ok(())
-}
-
-/// The resource ids of the policies that these lead to, in order and with repeats.
-pub fn policy_ids<T: Tree>(
-    alloc: Global,
-    entity: &Entity<T>,
-    values: &[Val],
-) -> Result<Vec<Val>, OutOfMemory>
-    ensures { IfOk result (λ v. v.items ≡ spec.policy_ids entity.now values.now) }
+) -> Result<Option<Vec<Val>>, OutOfMemory>
+    ensures { IfOk result (λ found. option_map (λ v. v.items) found
+        ≡ (if list_all (λ d. is_some (spec.policy_meant entity.now d)) values.now
+        then Some (spec.policy_ids entity.now values.now) else None)) }
 {
     let mut ids = Vec::with_capacity(alloc, values.len())?;
     for value in values {
-        push_id(alloc, entity, value, &mut ids)?;
+        let Some(policy) = policy_meant(alloc, entity, value)? else {
+            return Ok(None);
+        };
+        ids.push(Val::of_text(policy.id(alloc)?))?;
     }
-    Ok(ids)
+    Ok(Some(ids))
+}
+
+/// Whatever policies the content names, where all of them are live.
+pub(crate) fn links_named<T: Tree>(
+    alloc: Global,
+    entity: &Entity<T>,
+    members: &Members,
+) -> Result<Option<Links>, OutOfMemory>
+    ensures live { IfOk result (λ found. is_some found ≡ spec.links_live entity.now members.now) }
+    ensures links { IfOk result (λ found. IfSome found (AreLinksOf entity.now members.now)) }
+{
+    let Some(acpi) = live_ids(alloc, entity, listed(Attr::Acpi, members))? else {
+        return Ok(None);
+    };
+    let Some(macp) = live_ids(alloc, entity, listed(Attr::Macp, members))? else {
+        return Ok(None);
+    };
+    Ok(Some(Links { acpi, macp }))
 }

@@ -1,18 +1,20 @@
 -- What the tests of a home say.
-use Rattle.std.proofs.Common.{◌≡◌, ℕ, List, Bool, true, false, not, Option, Some, None, if◌then◌else◌, refl}
-use Rattle.std.proofs.lemmas.Bool.{and_parts, not-true}
-use Rattle.m2m_names.specs.Name.{is_free_name, is_originator, is_resource_id}
+use Rattle.std.proofs.Common.{◌≡◌, ℕ, List, Bool, true, false, not, ◌||◌, Option, Some, None, if◌then◌else◌, refl}
+use Rattle.std.proofs.lemmas.Bool.{and_parts, or_parts, not-true}
+use Rattle.m2m_names.specs.Name.{is_free_name, is_originator, is_resource_id, is_request_id}
 use Rattle.resource_model.specs.Home.{HomeData, IsHome, is_base_name, is_cse_type}
 
 -- a name of the CSEBase
 pub record IsBaseName (text : List ℕ) : Type 0 where
   pub free : is_free_name text ≡ true
   pub no_id : is_resource_id text ≡ false
+  pub no_request : is_request_id text ≡ false
 
 pub base_name_parts : (text : List ℕ) → is_base_name text ≡ true → IsBaseName text
 base_name_parts text is =
-    let parts = and_parts (is_free_name text) (not (is_resource_id text)) is in
-    record { free = parts.0; no_id = not-true _ parts.1 }
+    let parts = and_parts (is_free_name text) (not (is_resource_id text || is_request_id text)) is in
+    let none = or_parts (is_resource_id text) (is_request_id text) (not-true _ parts.1) in
+    record { free = parts.0; no_id = none.0; no_request = none.1 }
 
 -- each part of a home is admitted
 pub record IsAdmittedHome (home : HomeData) : Type 0 where

@@ -1,7 +1,8 @@
 -- The home of an entity: what it is called, and who runs it.
-use Rattle.std.specs.Prelude.{◌≡◌, ℕ, ℤ, pos, int_le, Bool, not, ◌&&◌, List, codes, Option, Some}
-use Rattle.std.specs.Prelude.{None, IsUtf8, if◌then◌else◌}
-use Rattle.m2m_names.specs.Name.{is_free_name, is_resource_id, is_originator}
+use Rattle.std.specs.Prelude.{◌≡◌, ℕ, ℤ, pos, int_le, Bool, not, ◌&&◌, ◌||◌, List, codes, Option}
+use Rattle.std.specs.Prelude.{Some, None, IsUtf8, if◌then◌else◌}
+use Rattle.m2m_names.specs.Name.{is_free_name, is_resource_id, is_request_id}
+use Rattle.m2m_names.specs.Name.{is_originator}
 
 -- A home: the service provider, the CSE-ID without its slash, the name of the CSEBase, the CSE
 -- type, and the administrator (TS-0001, 6.2.3 and 9.6.3).
@@ -12,9 +13,10 @@ pub record HomeData : Type 0 where
   pub cst : ℤ
   pub admin : List ℕ
 
--- the name of the CSEBase: a free name that is no resource id
+-- the name of the CSEBase: a free name in the form of no id, neither a resource's nor that of a
+-- request that is answered later
 abbrev pub is_base_name : List ℕ → Bool
-is_base_name text = is_free_name text && not (is_resource_id text)
+is_base_name text = is_free_name text && not (is_resource_id text || is_request_id text)
 
 -- the numbers of CSE types: 1 for an infrastructure node, 2 for a middle node, 3 for an application
 -- service node (TS-0004, 6.3.4.2.3)

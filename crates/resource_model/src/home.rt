@@ -6,7 +6,7 @@ ghost use Rattle.resource_model.specs.Home as spec;
 ghost use Rattle.resource_model.specs.Home.{default_home};
 ghost use Rattle.m2m_names.specs.Name as names;
 
-use m2m_names::{is_free_name, is_originator, is_resource_id};
+use m2m_names::{is_free_name, is_originator, is_request_id, is_resource_id};
 use m2m_value::{OutOfMemory, Text};
 use std::alloc::Global;
 use std::marker::Model;
@@ -81,7 +81,7 @@ fn is_base_name(text: &[u8]) -> bool
     ensures value { result ≡ spec.is_base_name text.now }
     ensures utf8 { OnTrue result (IsUtf8 text.now) }
 {
-    is_free_name(text) && !is_resource_id(text)
+    is_free_name(text) && !(is_resource_id(text) || is_request_id(text))
 }
 
 /// The place of the first argument that isn't admitted.
@@ -120,8 +120,8 @@ impl Home {
     ghost use Rattle.resource_model.specs.Home.{first_bad, default_home};
 
     /// A home of these parts. The service provider, the CSE-ID, here without its slash, and the
-    /// name of the CSEBase are free names, the last of them no resource id; the CSE type is 1, 2 or
-    /// 3; the administrator is an originator.
+    /// name of the CSEBase are free names, the last of them in the form of no id; the CSE type is 1,
+    /// 2 or 3; the administrator is an originator.
     pub fn new(
         alloc: Global,
         sp: &[u8],

@@ -1,3 +1,1 @@
-pub mod AnswerLemmas
-mod CarryLemmas
 mod RouteLemmas

@@ -1,6 +1,8 @@
 -- Originators in full, and the CSEs that they come from.
-use Rattle.std.proofs.Common.{◌≡◌, ℕ, ◌+◌, Bool, true, false, List, [], ◌∷◌, ◌++◌, length, take, codes, Option, None, Result, Ok, Err, IfOk, is_some, refl, sym, ap, subst, ◌∙◌, append_assoc, arith, nat_eq}
+use Rattle.std.proofs.Common.{◌≡◌, ℕ, ◌+◌, Bool, true, false, List, [], ◌∷◌, ◌++◌, length, take, codes, Option, Some, None, Result, Ok, Err, IfOk, is_some, inl, inr, refl, sym, ap, subst, ◌∙◌, append_assoc, arith, nat_eq}
+use Rattle.std.proofs.lemmas.Bool.{cases_Bool}
 use Rattle.std.specs.List.{All, position_or_len, starts_with}
+use Rattle.std.specs.Option.{option_map_or}
 use Rattle.std.specs.Str.{IsUtf8}
 use Rattle.std.proofs.Math.Seq.{take-append_seam}
 use Rattle.std.proofs.lemmas.List.Elements.{All-head, All-tail}
@@ -14,9 +16,13 @@ use Rattle.tree_model.specs.Tree.{cse_of}
 use Rattle.tree_model.proofs.ShownLemmas.{slash_utf8}
 use Rattle.policy_eval.specs.Originators.{full_form, own_lead}
 use Rattle.addressing.specs.Addresses.{is_slash}
+use Rattle.addressing.specs.Names.{IsLocal}
+use Rattle.addressing.specs.declared.addr.Addr.{Addr}
+use Rattle.addressing.specs.declared.addr.Addr.TheVariants.{Local, Foreign, OtherProvider}
 use Rattle.addressing.proofs.PartLemmas.{name_has_no_slash}
-use Rattle.subscription_match.specs.Destinations.{leading_cse_id}
-use Rattle.retarget.specs.Routes.{FullFormTellsTheCse, comes_from_cse}
+use Rattle.subscription_match.specs.Destinations.{cse_named, first_url, leading_cse_id}
+use Rattle.retarget.specs.Routes.{FullFormTellsTheCse, comes_from_cse, routed, routed_to}
+use Rattle.retarget.specs.declared.routing.Route.TheVariants as to
 
 -- what stands behind own CSE-ID is a text
 pub behind_own_utf8 : (home : HomeData) (originator : List ℕ) → IsUtf8 home.csi → is_originator originator ≡ true
@@ -64,3 +70,25 @@ told_by_front home nodes originator named none false e =
 pub full_form_tells : FullFormTellsTheCse
 full_form_tells home nodes originator named none =
     told_by_front home nodes originator named none (starts_with nat_eq originator (codes "/")) refl
+
+-- ---- who stays
+
+-- what leads to another CSE doesn't stay
+leaves : (nodes : List ResourceData) (originator : List ℕ) (cse : ResourceData) → routed_to nodes originator cse ≡ to.Local → ⊥
+leaves nodes originator cse stays = elim (cases_Bool (comes_from_cse nodes originator)) [
+  | inl t ↦ let e : to.NoHop ≡ to.Local = rw t at stays in cc
+  | inr f ↦ elim (cases_Bool (is_some (first_url cse))) [
+    | inl t ↦ let e : to.Forward cse.number ≡ to.Local = rw (f, t) at stays in cc
+    | inr g ↦ let e : to.NoPoint ≡ to.Local = rw (f, g) at stays in cc
+  ]
+]
+
+leaves_by : (nodes : List ResourceData) (originator : List ℕ) (cse : Option ResourceData) → option_map_or (routed_to nodes originator) cse to.Unknown ≡ to.Local → ⊥
+leaves_by nodes originator (Some cse) stays = leaves nodes originator cse stays
+leaves_by nodes originator None stays = cc
+
+-- what stays has a local address
+pub stays_local : (nodes : List ResourceData) (originator : List ℕ) (addr : Addr) → routed nodes originator addr ≡ to.Local → IsLocal addr
+stays_local nodes originator (Local segments) stays = tt
+stays_local nodes originator (Foreign text) stays = leaves_by nodes originator (cse_named text nodes) stays
+stays_local nodes originator OtherProvider stays = cc

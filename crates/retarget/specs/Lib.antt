@@ -1,4 +1,1 @@
-pub mod Answers
-pub mod Carries
 pub mod Routes
-pub mod Sending

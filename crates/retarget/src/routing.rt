@@ -1,6 +1,8 @@
 //! Where a request goes.
 ghost use Rattle.std.specs.Prelude.{◌≡◌};
+ghost use Rattle.addressing.specs.Names.{IsLocal};
 ghost use Rattle.retarget.specs.Routes as spec;
+ghost use Rattle.retarget.specs.declared.routing.Route.TheVariants.{Local};
 
 use addressing::Addr;
 use subscription_match::{cse_named, first_url, leading_cse_id};
@@ -41,9 +43,11 @@ fn route_to<T: Tree>(tree: &T, originator: &[u8], cse: &Resource) -> Route
     }
 }
 
-/// Where a request of this originator goes by its address.
+/// Where a request of this originator goes by its address. Whoever has told a local address from
+/// others asks of the others alone.
 pub fn route_of<T: Tree>(tree: &T, originator: &[u8], addr: &Addr) -> Route
-    ensures { result ≡ spec.routed (T.nodes tree.now) originator.now addr.now }
+    ensures route { result ≡ spec.routed (T.nodes tree.now) originator.now addr.now }
+    ensures local { result ≡ Local → IsLocal addr.now }
 {
     match addr {
         Addr::Local(_) => Route::Local,

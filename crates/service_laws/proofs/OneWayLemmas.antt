@@ -1,13 +1,16 @@
 -- A stream is answered in one way.
-use Rattle.service_laws.proofs.Words.{◌≡◌, ◌≢◌, ℕ, ◌+◌, Bool, true, false, List, [], ◌∷◌, ◌++◌, map, Option, Some, IsTrue, inl, inr, refl, sym, ap, subst, ◌∙◌, arith, All, list_any}
+use Rattle.service_laws.proofs.Words.{◌≡◌, ◌≢◌, ℕ, ◌+◌, Bool, true, false, List, [], ◌∷◌, ◌++◌, map, Option, Some, IsTrue, inl, inr, refl, sym, ap, subst, ◌∙◌, arith, All, list_all, list_any}
 use Rattle.service_laws.proofs.Terms.{ReplyParts, sink_told, readings_of, events_of, outcomes_of, Frame, Request, BeginsWithFrames, BeginsWithFrame, HasNoFrame, EntityData, Event, Ask, Outcome, History, IsDone, Step, Ended, Closed, NoFrame, ReadFault, WriteFault, Memory, closes, requests_in, talk, some_closes, ends_at_close, RefusesRightly, EndsRightly, Says, AsksFrames, GivesReplies}
 use Rattle.service_laws.proofs.Facts.{cases_Bool, true≢false, false≢true, append_cancel_left, All-map, Grew-runs, one_way}
+use Rattle.std.specs.Prelude.{◌||◌}
 use Rattle.turn_desk.specs.Growth.{IsOwnRun}
 use Rattle.http_frames.proofs.FrameLemmas.{BeginsWith_unique}
 use Rattle.http_frames.proofs.InboxLemmas.{none_within}
 use Rattle.http_frames.proofs.LookLemmas.{some_bytes}
-use Rattle.machine_laws.specs.Sight.{IsBy, goes_away}
-use Rattle.machine_laws.proofs.AlikeLemmas.{stay_alike}
+use Rattle.machine_laws.specs.Sight.{IsBy, are_calm_but_last, is_calm_event, is_polling}
+use Rattle.machine_laws.proofs.AlikeLemmas.{is_polling_event, same_outcomes, stayed_alike}
+use Rattle.resource_model.specs.Home.{HomeData}
+use Rattle.primitive_json.specs.declared.request.RequestParts.{RequestParts}
 use Rattle.service_laws.specs.Laws.{IsFaultless, ServesBoth, AreServedAlike, IsAnsweredInOneWay, EqualSightsAreServedAlike}
 use Rattle.service_laws.proofs.CarriedLemmas.{replies_alike}
 
@@ -192,14 +195,22 @@ answered_in_one_way opening after other both =
 
 -- ---- by one originator
 
+none_asked : (home : HomeData) (requests : List RequestParts) → list_any (is_polling_event home) (map Ask requests) ≡ list_any (is_polling home) requests
+none_asked home [] = refl
+none_asked home (request ∷ requests) = ap (λ (b : Bool). is_polling home request || b) (none_asked home requests)
+
 pub served_alike : EqualSightsAreServedAlike
-served_alike left right after other o both sound sounds same by finds =
+served_alike left right after other o both sound sounds same by none calm =
     let one = both.first.asks.asked in
     let two = both.second.asks.asked in
+    let ran = Grew-runs Step one.grew in
     let way =
-    stay_alike one.mine two.mine o left right after other sound sounds same (Grew-runs Step one.grew) (Grew-runs Step two.grew)
+    stayed_alike one.mine two.mine o left right after other sound sounds same ran (Grew-runs Step two.grew)
     (same_readings left right after other both) (same_events left right after other both)
     (subst (λ (es : List Event). All (IsBy left.home o) es) (sym one.events_are) (All-map (IsBy left.home o) Ask (requests_in both.first.heard) by))
-    (λ away. finds (sym (ap (list_any (goes_away left.home)) one.events_are) ∙ away))
+    (ap are_calm_but_last one.events_are ∙ calm)
     (all_first left right after other both) (all_second left right after other both) in
-    (served_same left right after other both way.0, way.1)
+    let outcomes =
+    same_outcomes one.mine two.mine left after ran (same_readings left right after other both)
+    (ap (list_any (is_polling_event left.home)) one.events_are ∙ none_asked left.home (requests_in both.first.heard) ∙ none) way.answers in
+    (served_same left right after other both outcomes, λ all. way.seen (ap (list_all is_calm_event) one.events_are ∙ all), way.shaped)

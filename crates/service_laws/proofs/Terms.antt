@@ -23,5 +23,5 @@ pub use Rattle.http_frames.specs.declared.frame.Side.TheVariants.{Request}
 pub use Rattle.m2m_io.specs.Link.{Carrying, Exchange, made_in}
 pub use Rattle.primitive_json.specs.declared.reply.ReplyParts.{ReplyParts}
 pub use Rattle.primitive_json.specs.declared.request.RequestParts.{RequestParts}
-pub use Rattle.retarget.specs.Answers.{Carried, handed_on}
+pub use Rattle.http_forwarding.specs.Answers.{Carried, handed_on}
 pub use Rattle.turn_desk.specs.Entries.{Runs, events_of, outcomes_of, readings_of}

@@ -1,7 +1,7 @@
 -- Laws of the talk of a connection.
 use Rattle.std.specs.Prelude.{◌≡◌, ℕ, true, false, List, [], ◌∷◌, ◌++◌, length, map, Option, Some}
 use Rattle.std.specs.Prelude.{⊤, IsTrue}
-use Rattle.std.specs.List.{All, list_any}
+use Rattle.std.specs.List.{All, list_all, list_any}
 use Rattle.m2m_io.specs.Link.{Carrying, Exchange, made_in}
 use Rattle.cse_server.specs.Outside.{LinkTold, Outside, outside, sink_told}
 use Rattle.turn_desk.specs.Entries.{readings_of, events_of, outcomes_of}
@@ -16,7 +16,8 @@ use Rattle.cse_machine.specs.declared.event.Outcome.{Outcome}
 use Rattle.cse_machine.specs.declared.event.Outcome.TheVariants.{Done}
 use Rattle.guard_laws.specs.Guard.{IsGuarded}
 use Rattle.cse_machine.specs.History.{History, HistoryLeaves, IsDone}
-use Rattle.machine_laws.specs.Sight.{sight, AreCsesInOrder, IsRequestBy, goes_away}
+use Rattle.machine_laws.specs.Sight.{shape, sight, IsRequestBy, are_calm_but_last, is_calm_event}
+use Rattle.machine_laws.specs.Sight.{is_polling}
 use Rattle.cse_machine.specs.Step.{Step}
 use Rattle.cse_server.specs.declared.connection.Ended.{Ended}
 use Rattle.cse_server.specs.declared.connection.Ended.TheVariants.{Closed, NoFrame, ReadFault}
@@ -127,15 +128,19 @@ IsAnsweredInOneWay =
     → AreServedAlike both × (after ≡ other)
 
 -- Equal sights are served alike: so are two connections that are served by sound entities of which
--- an originator sees the same, where each request that was heard is one that is covered and is by
--- that originator, or isn't served, whoever asks; and it sees the same of what they leave. Where
--- one of them goes to another CSE, the attributes of those that are registered stand in order.
+-- an originator sees the same, where each request that was heard is by that originator, or isn't
+-- served, whoever asks; where none is a Retrieve of an address with the segment of a poll point; and
+-- where none but the last names policies or rules. The entities have one shape for the originator
+-- afterwards; and it sees the same of what they leave, where the last names none either.
 abbrev pub EqualSightsAreServedAlike : Type 0
 EqualSightsAreServedAlike =
     (left right after other : EntityData) (originator : List ℕ)
     (both : ServesBoth left right after other)
     → IsSoundEntity left → IsSoundEntity right → sight originator left ≡ sight originator right
     → All (IsRequestBy left.home originator) (requests_in both.first.heard)
-    → (IsTrue (list_any (goes_away left.home) (map Ask (requests_in both.first.heard)))
-    → AreCsesInOrder left.nodes × AreCsesInOrder right.nodes)
-    → AreServedAlike both × (sight originator after ≡ sight originator other)
+    → list_any (is_polling left.home) (requests_in both.first.heard) ≡ false
+    → IsTrue (are_calm_but_last (map Ask (requests_in both.first.heard)))
+    → AreServedAlike both
+    × (IsTrue (list_all is_calm_event (map Ask (requests_in both.first.heard)))
+    → sight originator after ≡ sight originator other)
+    × (shape originator after ≡ shape originator other)

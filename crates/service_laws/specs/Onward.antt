@@ -20,7 +20,7 @@ use Rattle.http_binding.specs.Replying.{body_of}
 use Rattle.http_client_binding.specs.Asking.{request_frame, request_text}
 use Rattle.http_client_binding.specs.TargetWriting.{root_path}
 use Rattle.http_client_binding.specs.declared.target.Aim.TheVariants.{Peer}
-use Rattle.retarget.specs.Answers.{Carried}
+use Rattle.http_forwarding.specs.Answers.{Carried}
 use Rattle.entity_model.specs.Entity.{EntityData}
 use Rattle.entity_model.specs.Sound.{IsSoundEntity}
 use Rattle.cse_machine.specs.declared.event.Event.TheVariants.{Ask}

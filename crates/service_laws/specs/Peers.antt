@@ -14,7 +14,7 @@ use Rattle.http_binding.specs.Binding.{binding, echo_of}
 use Rattle.http_binding.specs.Replying.{reply_text}
 use Rattle.http_client_binding.specs.Asking.{request_frame, request_text}
 use Rattle.http_client_binding.specs.declared.target.Aim.TheVariants.{Peer}
-use Rattle.retarget.specs.Answers.{Carried, handed_on, unreached}
+use Rattle.http_forwarding.specs.Answers.{Carried, handed_on, unreached}
 use Rattle.entity_model.specs.Entity.{EntityData}
 use Rattle.cse_machine.specs.declared.event.Event.TheVariants.{Ask}
 use Rattle.cse_machine.specs.declared.event.Outcome.{Outcome}

@@ -12,7 +12,7 @@ use Rattle.http_binding.specs.Binding.{Binds}
 use Rattle.http_binding.specs.Replying.{reply_text}
 use Rattle.http_client_binding.specs.Asking.{request_text}
 use Rattle.http_client_binding.specs.declared.target.Aim.TheVariants.{Peer}
-use Rattle.retarget.specs.Answers.{Carried}
+use Rattle.http_forwarding.specs.Answers.{Carried}
 use Rattle.entity_model.specs.Entity.{EntityData}
 use Rattle.entity_model.specs.Sound.{IsSoundEntity}
 use Rattle.cse_machine.specs.declared.event.Event.TheVariants.{Ask}

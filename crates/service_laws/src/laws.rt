@@ -83,7 +83,8 @@ pub fn a_stream_is_answered_in_one_way()
     ensures { IsAnsweredInOneWay }
 {}
 
-/// To one originator a stream of covered requests is answered by what it sees of the entity.
+/// To one originator a stream of its requests is answered by what it sees of the entity, where none of
+/// them may be a poll, up to and with the first that names policies or rules.
 pub fn equal_sights_are_served_alike()
     ensures { EqualSightsAreServedAlike }
 {}

@@ -56,7 +56,7 @@ whole (x ∷ xs) = ap (λ ys. x ∷ ys) (whole xs)
 
 -- ---- of a change of rows, what stays of some attributes
 
-told_change : (p : Attr → Bool) (a : Attr) (x : Option Data) (rows : List Row) → rows_of p (with_change a x rows) ≡ with_change a (cond (p a) x None) (rows_of p rows)
+pub told_change : (p : Attr → Bool) (a : Attr) (x : Option Data) (rows : List Row) → rows_of p (with_change a x rows) ≡ with_change a (cond (p a) x None) (rows_of p rows)
 told_change p a x rows = by x
   where
     fronts : rows_of p (rows_before a rows) ≡ rows_before a (rows_of p rows)

@@ -7,7 +7,7 @@ use Rattle.create_delete.proofs.CreatableLemmas.{allowed, names_attributes, name
 use Rattle.create_delete.proofs.CreatedLemmas.{may_join, newcomer}
 use Rattle.create_delete.proofs.EffectLemmas.{done_at}
 use Rattle.create_delete.proofs.RightLemmas.{stays_sound}
-use Rattle.sight_laws.specs.Sight.{sight}
+use Rattle.equal_sights.specs.Sight.{sight}
 use Rattle.sight_laws.proofs.CreationLemmas.{create_reply, fills_it, new_seen, update_seen}
 use Rattle.sight_laws.proofs.JoinedLemmas.{IsContainerAt, appended, not_linked, stamped-same}
 use Rattle.sight_laws.proofs.PlacesLemmas.{create_refused}

@@ -4,7 +4,7 @@ use Rattle.sight_laws.proofs.Terms.{Acpi, Cs, Macp, St, Rsc, BadChild, Created, 
 use Rattle.sight_laws.proofs.Facts.{cases_Bool, cond_both, eq-eqb, ne_eqb, map-append, below_parts, tree_from_well_formed, filter_image, at-seen, seen_shows, places_parts}
 use Rattle.sight_laws.proofs.SightLemmas.{structured_of-map}
 use Rattle.create_delete.proofs.GrownLemmas.{IsOlder, all_turned, nothing_picked}
-use Rattle.sight_laws.specs.Sight.{sight}
+use Rattle.equal_sights.specs.Sight.{sight}
 use Rattle.sight_laws.proofs.EvictionLemmas.{evicted-seen}
 use Rattle.sight_laws.proofs.NamedLemmas.{group_rows-seen, link_row-seen}
 use Rattle.sight_laws.proofs.PlacesLemmas.{create_refused, limits_seen, may_fill}

@@ -60,7 +60,7 @@ named_later e es a later = elim (cases_Bool (bytes_eq (attr_short a) e.0)) [
   | inr f ↦ rw f later
 ]
 
-abbrev NoneNamed : (Attr → Bool) → List Entry → Type 0
+abbrev pub NoneNamed : (Attr → Bool) → List Entry → Type 0
 NoneNamed p es = (a : Attr) → is_named a es ≡ true → p a ≡ false
 
 sets_pass : (p : Attr → Bool) (es : List Entry) → NoneNamed p es → list_any (λ (c : NewValue). p c.0) (set_changes (filter_map set_row es)) ≡ false

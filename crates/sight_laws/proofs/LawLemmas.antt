@@ -3,9 +3,10 @@ use Rattle.sight_laws.proofs.Words.{◌≡◌, ℕ, List, true, Option, Some, No
 use Rattle.sight_laws.proofs.Terms.{NotFound, Create, Update, RequestParts, ResourceData, at, seen, EntityData, Effect, on_found, fault_at, fault_on, told_effect_at, told_effect_on}
 use Rattle.sight_laws.proofs.Facts.{at_number, at-seen}
 use Rattle.m2m_names.specs.declared.operations.Op.{Op}
-use Rattle.sight_laws.specs.Laws.{CreatesAreSeenAlike, UpdatesAreSeenAlike}
-use Rattle.sight_laws.specs.Sight.{sight}
+use Rattle.sight_laws.specs.Laws.{CreatesAreSeenAlike, RuleUpdatesKeepOneShape, UpdatesAreSeenAlike}
+use Rattle.equal_sights.specs.Sight.{sight}
 use Rattle.sight_laws.proofs.CreatedLemmas.{created-alike}
+use Rattle.sight_laws.proofs.ShapeUpdateLemmas.{updated_at-shaped}
 use Rattle.sight_laws.proofs.UpdateAlikeLemmas.{updated-alike}
 use Rattle.sight_laws.proofs.SeenAlikeLemmas.{AreSeenAlike, FoundAlike, found_alike, found_both, not_found}
 
@@ -48,4 +49,9 @@ create_at_alike x y o request n soundx soundy same originator =
 pub update_at_alike : UpdatesAreSeenAlike
 update_at_alike x y o request n soundx soundy same calm =
     let alike = at_alike Update o x y request n same (λ p q inx iny number. updated-alike o x y soundx soundy same request p q inx iny number calm) in
+    (alike.reply, alike.after)
+
+pub rules_at_alike : RuleUpdatesKeepOneShape
+rules_at_alike x y o request n soundx soundy same rules =
+    let alike = updated_at-shaped o x y soundx soundy same request rules n in
     (alike.reply, alike.after)

@@ -8,7 +8,7 @@ pub mod SightLemmas
 pub mod AnswerLemmas
 pub mod ToldLemmas
 pub mod SeenAlikeLemmas
-pub mod CseOrderLemmas
+pub mod ViewLemmas
 pub mod NamedLemmas
 pub mod PlacesLemmas
 pub mod EvictionLemmas
@@ -18,7 +18,9 @@ pub mod CreatedLemmas
 pub mod ChangeRowsLemmas
 pub mod EditLemmas
 pub mod UpdateSeenLemmas
+pub mod RuleEditLemmas
 pub mod UpdateAlikeLemmas
+pub mod ShapeRepliedLemmas
+pub mod ShapeToldLemmas
+pub mod ShapeUpdateLemmas
 pub mod LawLemmas
-pub mod CreatedOrderLemmas
-pub mod UpdatedOrderLemmas

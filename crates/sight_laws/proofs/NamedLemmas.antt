@@ -2,14 +2,10 @@
 use Rattle.sight_laws.proofs.Words.{◌==◌, ◌≡◌, ℕ, List, [], ◌∷◌, map, length, Bool, false, cond, not, ◌&&◌, ◌||◌, Option, Some, None, is_some, option_map, Result, Ok, Err, refl, ap, ap₂, ◌∙◌, cons_option, filter_map, list_all, option_and_then, option_map_or}
 use Rattle.sight_laws.proofs.Terms.{Attr, Acpi, Macp, TooManyMembers, WrongMember, Ty, AccessControlPolicy, Data, Entry, text, list, elements_of, as_text, ResourceData, id_of, is_ty, at, of_type, typed_at, spot_resource, policy_at, seen, seen_list, EntityData, first_fault, unless, MembershipData, abandon_group, abandon_member, any_type, are_few, are_validated, differs_from, distinct_texts, group_rows, has_other_type, is_consistent, is_left_out, is_of_other_type, member_named, member_rows, members_kept, set_mixed, type_kept, member_places, link_row, links_live, listed, policy_addressed, policy_ids, policy_meant, policy_on}
 use Rattle.sight_laws.proofs.Facts.{list_any-same, list_all-same, at-seen, filter_same, both_chosen}
-use Rattle.addressing.specs.Addresses.{address_of}
-use Rattle.addressing.specs.Laws.{named_here, spot_named}
-use Rattle.addressing.specs.declared.addr.Addr.{Addr}
-use Rattle.addressing.specs.declared.addr.Addr.TheVariants.{Local, Foreign, OtherProvider}
-use Rattle.addressing.specs.declared.addr.AddrFault.{AddrFault}
+use Rattle.addressing.specs.Laws.{spot_named}
 use Rattle.addressing.specs.declared.spot.Spot.{Spot}
-use Rattle.sight_laws.proofs.SpotLemmas.{spot_of-seen}
-use Rattle.sight_laws.specs.Sight.{sight}
+use Rattle.equal_sights.specs.Sight.{sight}
+use Rattle.sight_laws.proofs.ViewLemmas.{link_row-view, links-view, seen_stands, spot-view}
 
 module _ (e : EntityData) (o : List ℕ) where
   abbrev seeing : EntityData
@@ -18,67 +14,20 @@ module _ (e : EntityData) (o : List ℕ) where
   abbrev see : ResourceData → ResourceData
   see = seen e.home e.nodes o
 
-  -- ---- an address
+  -- ---- an address, and a policy
 
-  pub spot-seen : (address : List ℕ) → spot_named e.home address (seen_list e.home e.nodes o) ≡ spot_named e.home address e.nodes
-  spot-seen address = by (address_of e.home address)
-    where
-      by : (a : Result Addr AddrFault) → named_here a (seen_list e.home e.nodes o) ≡ named_here a e.nodes
-      by (Ok (Local segments)) = spot_of-seen e.home e.nodes o segments
-      by (Ok (Foreign address)) = refl
-      by (Ok OtherProvider) = refl
-      by (Err fault) = refl
-
-  -- ---- a policy
+  spot-seen : (address : List ℕ) → spot_named e.home address (seen_list e.home e.nodes o) ≡ spot_named e.home address e.nodes
+  spot-seen address = spot-view e see (seen_stands e.home e.nodes o) address
 
   still_some : (p : Option ResourceData) → is_some (option_map see p) ≡ is_some p
   still_some None = refl
   still_some (Some r) = refl
 
-  pub typed-seen : (ty : Ty) (n : ℕ) → typed_at ty n (seen_list e.home e.nodes o) ≡ option_map (seen e.home e.nodes o) (typed_at ty n e.nodes)
-  typed-seen ty n = ap (option_and_then (of_type ty)) (at-seen e.home e.nodes o n) ∙ by (at n e.nodes)
-    where
-      by : (p : Option ResourceData) → option_and_then (of_type ty) (option_map see p) ≡ option_map see (option_and_then (of_type ty) p)
-      by None = refl
-      by (Some r) = both_chosen (λ (x y : Option ResourceData). x ≡ option_map see y) (is_ty r.ty ty) _ _ _ _ (λ t. refl) (λ f. refl)
-
-  on_spot : (spot : Option Spot) → option_and_then (policy_on (seen_list e.home e.nodes o)) spot ≡ option_map see (option_and_then (policy_on e.nodes) spot)
-  on_spot None = refl
-  on_spot (Some spot) = by (spot_resource spot)
-    where
-      by : (n : Option ℕ) → option_and_then (policy_at (seen_list e.home e.nodes o)) n ≡ option_map see (option_and_then (policy_at e.nodes) n)
-      by None = refl
-      by (Some n) = typed-seen AccessControlPolicy n
-
-  pub policy-seen : (d : Data) → policy_meant (sight o e) d ≡ option_map (seen e.home e.nodes o) (policy_meant e d)
-  policy-seen d = by (as_text d)
-    where
-      by : (t : Option (List ℕ)) → option_and_then (policy_addressed seeing) t ≡ option_map see (option_and_then (policy_addressed e) t)
-      by None = refl
-      by (Some t) =
-          ap (option_and_then (policy_on (seen_list e.home e.nodes o))) (spot-seen t)
-          ∙ on_spot (spot_named e.home t e.nodes)
-
-  all_live : (ds : List Data) → list_all (λ (d : Data). is_some (policy_meant seeing d)) ds ≡ list_all (λ (d : Data). is_some (policy_meant e d)) ds
-  all_live ds =
-      list_all-same (λ (d : Data). is_some (policy_meant seeing d)) (λ (d : Data). is_some (policy_meant e d))
-      (λ d. ap is_some (policy-seen d) ∙ still_some (policy_meant e d)) ds
-
   pub links-seen : (es : List Entry) → links_live (sight o e) es ≡ links_live e es
-  links-seen es = ap₂ (λ a b. a && b) (all_live (listed Acpi es)) (all_live (listed Macp es))
-
-  ids_seen : (ds : List Data) → policy_ids seeing ds ≡ policy_ids e ds
-  ids_seen [] = refl
-  ids_seen (d ∷ ds) =
-      ap (λ (p : Option ResourceData). map (λ (r : ResourceData). text (id_of r)) (cons_option p (filter_map (policy_meant seeing) ds))) (policy-seen d)
-      ∙ by (policy_meant e d) (ids_seen ds)
-    where
-      by : (p : Option ResourceData) → policy_ids seeing ds ≡ policy_ids e ds → map (λ (r : ResourceData). text (id_of r)) (cons_option (option_map see p) (filter_map (policy_meant seeing) ds)) ≡ map (λ (r : ResourceData). text (id_of r)) (cons_option p (filter_map (policy_meant e) ds))
-      by None rest = rest
-      by (Some r) rest = ap (λ (xs : List Data). text (id_of r) ∷ xs) rest
+  links-seen es = links-view e see (seen_stands e.home e.nodes o) es
 
   pub link_row-seen : (es : List Entry) (attr : Attr) → link_row (sight o e) es attr ≡ link_row e es attr
-  link_row-seen es attr = ap (λ (ids : List Data). cond (length (listed attr es) == 0) [] ((attr, list (elements_of ids)) ∷ [])) (ids_seen (listed attr es))
+  link_row-seen es attr = link_row-view e see (seen_stands e.home e.nodes o) es attr
 
   -- ---- a member of a group
 

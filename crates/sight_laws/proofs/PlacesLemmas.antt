@@ -1,18 +1,19 @@
 -- A Create and an Update are refused by the same place on what their originator sees.
 use Rattle.sight_laws.proofs.Words.{◌+◌, ◌==◌, nat_le, nat_lt, ◌≡◌, ℕ, List, [], length, Bool, true, false, cond, not, ◌&&◌, Option, Some, None, inl, inr, refl, sym, ap, ap₂, ◌∙◌, option_and_then, option_map_or}
 use Rattle.sight_laws.proofs.Terms.{Csy, Csi, Mbs, Mia, Mid, Mni, Mnm, Mt, Rsc, BadRequest, Conflict, NoPrivilege, NotAcceptable, NotAllowed, Create, Update, Ty, Ae, ContentInstance, Group, PollingChannel, RemoteCse, Subscription, Entry, RequestParts, ResourceData, is_ty, is_named, named_text, at, is_channel, level_of, is_within, limits_of, Limits, create_bit, grants, retrieve_bit, update_bit, fills, has_bit, may_use, seen, seen_list, EntityData, first_fault, creation_of, largest_count, greatest_count, greatest_depth, largest_size, own_cse_id, has_place, is_below, has_room, is_free_cse_id, is_single, is_small, is_unique, new_ae_id, new_name, new_size, takes_instance, MembershipData, does_edit_members, have_addresses, membership_edited, membership_new, child_fault, creation_by, creation_places, edit_places, expires_later, fault_new, fault_on, member_places, new_places, links_live, admits_content, child_ty, content_for, is_for, named_by, named_for, takes_child, create_bits, is_relink, is_subscribing, may_do}
-use Rattle.sight_laws.proofs.Facts.{and_from, and_parts, both_ways, cases_Bool, eqb-true, or_left, length-map, same_type, KeepsStanding, has_ae_id-map, has_child-map, has_cse_id-map, list_any-map, ae_id-seen, cse_id-seen, grants-seen, relinks-seen, seen_shows, names_link}
+use Rattle.sight_laws.proofs.Facts.{and_from, and_parts, both_ways, cases_Bool, eqb-true, or_left, length-map, same_type, KeepsStanding, has_ae_id-map, has_child-map, has_cse_id-map, list_any-map, grants-seen, relinks-seen, seen_shows, names_link}
 use Rattle.std.specs.Prelude.{bytes_eq}
 use Rattle.m2m_names.specs.Types.{does_take, ty_of_number, ty_row}
 use Rattle.create_delete.proofs.InstanceLemmas.{takes_is_container}
 use Rattle.sight_laws.proofs.MapLemmas.{line-map}
-use Rattle.sight_laws.specs.Sight.{sight}
+use Rattle.equal_sights.specs.Sight.{sight}
 use Rattle.sight_laws.proofs.NamedLemmas.{links-seen, member_places-seen}
+use Rattle.sight_laws.proofs.ViewLemmas.{seen_stands}
 
 -- ---- the order of refusals
 
 -- for want of the right, by type and child, then by the content, and then by this
-abbrev refusal_by : Bool → Bool → Bool → Bool → Bool → Bool → Rsc → Option Rsc → Option Rsc
+abbrev pub refusal_by : Bool → Bool → Bool → Bool → Bool → Bool → Rsc → Option Rsc → Option Rsc
 refusal_by may type child content later live fault new =
     cond may (cond type (cond child (cond content (cond later (cond live new (Some BadRequest)) (Some BadRequest)) (Some BadRequest)) (Some fault)) (Some NotAllowed)) (Some NoPrivilege)
 
@@ -45,14 +46,7 @@ module _ (e : EntityData) (o : List ℕ) where
   see = seen e.home e.nodes o
 
   stands : KeepsStanding (seen e.home e.nodes o)
-  stands = record {
-    number = λ r. refl;
-    ty = λ r. refl;
-    name = λ r. refl;
-    parent = λ r. refl;
-    ae = ae_id-seen e.home e.nodes o;
-    cse = cse_id-seen e.home e.nodes o;
-  }
+  stands = seen_stands e.home e.nodes o
 
   -- ---- what stands there
 

@@ -2,13 +2,17 @@
 use Rattle.sight_laws.proofs.Words.{◌≡◌, ℕ, List, true, Option, Some, None, option_map, refl, sym, ap, ◌∙◌, option_map_or}
 use Rattle.sight_laws.proofs.Terms.{Rsc, RequestParts, HomeData, ResourceData, at, is_well_formed, seen, seen_list, nodes_spent, DraftParts, EntityData, Effect, refused}
 use Rattle.sight_laws.proofs.Facts.{none-some, same_Some, at-seen}
-use Rattle.sight_laws.specs.Sight.{sight}
+use Rattle.equal_sights.specs.Sight.{sight}
 use Rattle.sight_laws.proofs.ToldLemmas.{OnlySubsCount, for_whom, spent-same}
 
--- two effects that the originator sees alike
-pub record AreSeenAlike (o : List ℕ) (x y : Effect) : Type 0 where
+-- two effects that reply the same and leave entities of which this holds
+pub record AreLeftAlike (Rel : EntityData → EntityData → Type 0) (x y : Effect) : Type 0 where
   pub reply : x.reply ≡ y.reply
-  pub after : sight o x.after ≡ sight o y.after
+  pub after : Rel x.after y.after
+
+-- two effects that the originator sees alike
+abbrev pub AreSeenAlike : List ℕ → Effect → Effect → Type 0
+AreSeenAlike o = AreLeftAlike (λ a b. sight o a ≡ sight o b)
 
 -- where the same place refuses a request, or what else comes of it is seen alike
 pub by_fault : (e other : EntityData) (o : List ℕ) (request : RequestParts) (f : Option Rsc) (x y : Effect) → sight o e ≡ sight o other → AreSeenAlike o x y → AreSeenAlike o (option_map_or (refused e request) f x) (option_map_or (refused other request) f y)

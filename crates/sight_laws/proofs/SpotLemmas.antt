@@ -41,7 +41,7 @@ module _ (g : ResourceData → ResourceData) (number : (r : ResourceData) → (g
       ∙ number_at-kept (length (instances_of n nodes) - 1) (instances_of n nodes)
   instance_of-kept false n nodes = ap first_number (instances_of-kept n nodes) ∙ number_at-kept 0 (instances_of n nodes)
 
-  typed_at-kept : (t : Ty) (n : ℕ) (nodes : List ResourceData) → typed_at t n (map g nodes) ≡ option_map g (typed_at t n nodes)
+  pub typed_at-kept : (t : Ty) (n : ℕ) (nodes : List ResourceData) → typed_at t n (map g nodes) ≡ option_map g (typed_at t n nodes)
   typed_at-kept t n nodes = ap (option_and_then (of_type t)) (at-map g number n nodes) ∙ by_found (at n nodes)
     where
       by_found : (o : Option ResourceData) → option_and_then (of_type t) (option_map g o) ≡ option_map g (option_and_then (of_type t) o)

@@ -34,7 +34,7 @@ pub use Rattle.m2m_value.specs.View.{as_list, as_text, entries, member_of}
 pub use Rattle.policy_eval.specs.Rights.{create_bit, discovery_bit, grants, retrieve_bit, update_bit}
 pub use Rattle.policy_eval.specs.Rules.{is_attr_in, linked_ids, listed_in, member_at, policy_at, policy_named, policy_number}
 pub use Rattle.policy_laws.specs.Changes.{CountsSubscriptions, NewValue, ShowNoMore, changed, counted_anew, do_judge, does_judge, does_link, is_id_of, is_linked, learns_limits, with_change, with_changes}
-pub use Rattle.policy_laws.specs.Seen.{fills, has_bit, is_filled_in, is_shown, may_use, seen, seen_list}
+pub use Rattle.equal_sights.specs.Seen.{fills, has_bit, is_filled_in, is_shown, may_use, seen, seen_list}
 pub use Rattle.primitive_json.specs.declared.reply.ReplyParts.{ReplyParts}
 pub use Rattle.primitive_json.specs.declared.request.RequestParts.{RequestParts}
 pub use Rattle.request_rules.specs.Asked.{Creation, creation_of}

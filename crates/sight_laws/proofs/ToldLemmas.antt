@@ -179,13 +179,13 @@ module _ (home : HomeData) (nodes : List ResourceData) (o : List ℕ) where
 
 -- ---- only subscriptions count
 
-abbrev is_counter : ResourceData → Bool
+abbrev pub is_counter : ResourceData → Bool
 is_counter r = not (is_some (left_to r)) || is_ty r.ty Subscription
 
 abbrev pub OnlySubsCount : List ResourceData → Type 0
 OnlySubsCount nodes = list_all is_counter nodes ≡ true
 
-counter_from : (r : ResourceData) → is_counter r ≡ true → is_some (left_to r) ≡ true → is_ty r.ty Subscription ≡ true
+pub counter_from : (r : ResourceData) → is_counter r ≡ true → is_some (left_to r) ≡ true → is_ty r.ty Subscription ≡ true
 counter_from r is some = sym (ap (λ b. not b || is_ty r.ty Subscription) some) ∙ is
 
 -- where the attributes are of their kinds
@@ -277,19 +277,19 @@ abbrev left_by : (ℕ → ℕ) → ResourceData → Option ℕ
 left_by counts r = cond (counts r.number == 0) None (option_map (λ left. left - counts r.number) (left_to r))
 
 -- the same is spent by drafts for the same
-spent_same : (drafts others : List DraftParts) → for_whom drafts ≡ for_whom others → (s r : ResourceData) → s.number ≡ r.number → left_to s ≡ left_to r → is_spent drafts s ≡ is_spent others r
+pub spent_same : (drafts others : List DraftParts) → for_whom drafts ≡ for_whom others → (s r : ResourceData) → s.number ≡ r.number → left_to s ≡ left_to r → is_spent drafts s ≡ is_spent others r
 spent_same drafts others same s r own left =
     let count : count_for s.number drafts ≡ count_for r.number others = ap (λ (n : ℕ). count_for n drafts) own ∙ same_counts drafts others same r.number in
     ap₂ (λ (n : ℕ) (l : Option ℕ). option_map_or (λ m. m == 0) (cond (n == 0) None (option_map (λ m. m - n) l)) false) count left
 
 -- lowered by its number
-lowered_at : (drafts : List DraftParts) (nodes : List ResourceData) → is_tree nodes ≡ true → map (lowered drafts) nodes ≡ map (counted_anew (spent nodes drafts)) nodes
+pub lowered_at : (drafts : List DraftParts) (nodes : List ResourceData) → is_tree nodes ≡ true → map (lowered drafts) nodes ≡ map (counted_anew (spent nodes drafts)) nodes
 lowered_at drafts nodes tree =
     map_from_zip (counted_anew (spent nodes drafts)) (map (lowered drafts) nodes) nodes
     (zip-found (λ s r. s ≡ counted_anew (spent nodes drafts) r) (lowered drafts) nodes tree (λ r found.
     ap (λ (p : Option ResourceData). option_map_or (λ n. recounted n r) (cond (count_for r.number drafts == 0) None (option_map (λ left. left - count_for r.number drafts) (option_and_then left_to p))) r) (sym found)))
 
-anew_same : (left other : ℕ → Option ℕ) → ((n : ℕ) → left n ≡ other n) → (nodes : List ResourceData) → map (counted_anew left) nodes ≡ map (counted_anew other) nodes
+pub anew_same : (left other : ℕ → Option ℕ) → ((n : ℕ) → left n ≡ other n) → (nodes : List ResourceData) → map (counted_anew left) nodes ≡ map (counted_anew other) nodes
 anew_same left other same [] = refl
 anew_same left other same (r ∷ nodes) =
     ap₂ (λ (l : Option ℕ) (rs : List ResourceData). option_map_or (λ n. recounted n r) l r ∷ rs) (same r.number) (anew_same left other same nodes)
@@ -303,7 +303,7 @@ spent_some drafts nodes n some = by (count_for n drafts == 0) (left_at nodes n) 
     by false None there = there
     by false (Some m) there = refl
 
-subs_counted : (drafts : List DraftParts) (nodes : List ResourceData) → OnlySubsCount nodes → CountsSubscriptions (spent nodes drafts) nodes
+pub subs_counted : (drafts : List DraftParts) (nodes : List ResourceData) → OnlySubsCount nodes → CountsSubscriptions (spent nodes drafts) nodes
 subs_counted drafts nodes counts r found some =
     counter_from r (number_passes is_counter r.number nodes r counts found)
     (ap (λ (p : Option ResourceData). is_some (option_and_then left_to p)) (sym found) ∙ spent_some drafts nodes r.number some)

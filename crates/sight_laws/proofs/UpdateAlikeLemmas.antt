@@ -2,9 +2,10 @@
 use Rattle.sight_laws.proofs.Words.{nat_eq, unwrap_or, ◌≡◌, ℕ, List, [], ◌∷◌, true, false, Bool, Option, Some, None, inl, inr, refl, sym, ap, subst, ◌∙◌, list_any, option_map_or}
 use Rattle.sight_laws.proofs.Terms.{Attr, Rsc, Updated, Update, Ty, ContentInstance, CseBase, Entry, RequestParts, HomeData, ResourceData, is_ty, update_changes, at, is_well_formed, replaced, grants, update_bit, NewValue, ShowNoMore, changed, has_bit, seen, seen_list, notes_of_all, nodes_spent, DraftParts, EntityData, refused, reply_to, wanted_content, IsSoundEntity, fault_on, content_for, named_by, named_for, is_relink, may_do, changes_by, named_attrs, nodes_updated, pushed_by, updated_resource, without_all, IsReplacement, gone_numbers, told_effect_by, told_effect_on, IsUpdatable}
 use Rattle.sight_laws.proofs.Facts.{both_ways, cases_Bool, not-true, or_parts, is_well_formed-replaced, replace-same, without-same, places_parts, updating_changes, updating_gone, names_link, replacement, updatable, updates_attributes, sound_updated}
-use Rattle.sight_laws.specs.Laws.{IsCalm, names_rules}
-use Rattle.sight_laws.specs.Sight.{sight}
+use Rattle.sight_laws.specs.Laws.{changes_rules, names_rules}
+use Rattle.equal_sights.specs.Sight.{sight}
 use Rattle.sight_laws.proofs.PlacesLemmas.{update_refused}
+use Rattle.sight_laws.proofs.RuleEditLemmas.{calm_for}
 use Rattle.sight_laws.proofs.SeenAlikeLemmas.{AreSeenAlike, same_home, same_last, same_seen, seen_same, spent_alike}
 use Rattle.sight_laws.proofs.ToldLemmas.{for_whom, numbers_told_all, sound_counts, update_seen, whom_all}
 use Rattle.sight_laws.proofs.UpdateSeenLemmas.{changes_judge_none, changes_of, changes_seen, content_seen, new_expiry, pushed_seen, updated_changed}
@@ -16,7 +17,7 @@ pub record IsDoneCalmly (e : EntityData) (o : List ℕ) (request : RequestParts)
   pub right : may_do Update e o request r.number ≡ true
   pub bit : has_bit e.home e.nodes o update_bit r ≡ true
 
-pub done_calmly : (e : EntityData) (o : List ℕ) (request : RequestParts) (r : ResourceData) → at r.number e.nodes ≡ Some r → IsCalm request → fault_on Update e o request r ≡ None → IsDoneCalmly e o request r
+pub done_calmly : (e : EntityData) (o : List ℕ) (request : RequestParts) (r : ResourceData) → at r.number e.nodes ≡ Some r → changes_rules request ≡ false → fault_on Update e o request r ≡ None → IsDoneCalmly e o request r
 done_calmly e o request r there calm none = by (content_for request r.ty) refl
   where
     right_is : may_do Update e o request r.number ≡ true
@@ -32,7 +33,7 @@ done_calmly e o request r there calm none = by (content_for request r.ty) refl
           bit = elim (cases_Bool (is_relink request)) [
             | inl links ↦
                 let alone = names_link request r.ty es links whole in
-                absurd (both_ways _ (ap names_rules named ∙ calm r.ty) (ap names_rules alone.1))
+                absurd (both_ways _ (ap names_rules named ∙ calm_for request calm r.ty) (ap names_rules alone.1))
             | inr f ↦
                 let granted : grants e.home e.nodes o update_bit r.number ≡ true = rw f at right_is in
                 (let here : has_bit e.home e.nodes o update_bit r ≡ true = rw there at granted in here)
@@ -41,7 +42,7 @@ done_calmly e o request r there calm none = by (content_for request r.ty) refl
 
 -- ---- what it replies
 
-module _ (e : EntityData) (o : List ℕ) (request : RequestParts) (r : ResourceData) (there : at r.number e.nodes ≡ Some r) (calm : IsCalm request) where
+module _ (e : EntityData) (o : List ℕ) (request : RequestParts) (r : ResourceData) (there : at r.number e.nodes ≡ Some r) (calm : changes_rules request ≡ false) where
   update_reply : (told_effect_on Update (sight o e) o request (seen e.home e.nodes o r)).reply ≡ (told_effect_on Update e o request r).reply
   update_reply =
       ap (λ (f : Option Rsc). (option_map_or (refused (sight o e) request) f (told_effect_by Update (sight o e) o request (seen e.home e.nodes o r))).reply) (update_refused e o request r there)
@@ -55,7 +56,7 @@ module _ (e : EntityData) (o : List ℕ) (request : RequestParts) (r : ResourceD
 
 -- ---- what it leaves
 
-module _ (o : List ℕ) (e : EntityData) (sound : IsSoundEntity e) (request : RequestParts) (r : ResourceData) (there : at r.number e.nodes ≡ Some r) (calm : IsCalm request) (done : IsDoneCalmly e o request r) where
+module _ (o : List ℕ) (e : EntityData) (sound : IsSoundEntity e) (request : RequestParts) (r : ResourceData) (there : at r.number e.nodes ≡ Some r) (calm : changes_rules request ≡ false) (done : IsDoneCalmly e o request r) where
   abbrev named : List Entry
   named = named_by Update request r
 
@@ -78,7 +79,7 @@ module _ (o : List ℕ) (e : EntityData) (sound : IsSoundEntity e) (request : Re
   pub shows_no_more : ShowNoMore e.home e.nodes o r (changes_of e (named_by Update request r) r)
   shows_no_more = record {
     other = (or_parts (is_ty r.ty CseBase) (is_ty r.ty ContentInstance) (not-true _ done.may.kind)).1;
-    free = changes_judge_none e named r done.may.sorted done.may (calm r.ty);
+    free = changes_judge_none e named r done.may.sorted done.may (calm_for request calm r.ty);
     reach = λ some. done.bit;
   }
 
@@ -92,7 +93,7 @@ module _ (o : List ℕ) (e : EntityData) (sound : IsSoundEntity e) (request : Re
 
 -- ---- two entities
 
-module _ (o : List ℕ) (x y : EntityData) (soundx : IsSoundEntity x) (soundy : IsSoundEntity y) (same : sight o x ≡ sight o y) (request : RequestParts) (p q : ResourceData) (inx : at p.number x.nodes ≡ Some p) (iny : at q.number y.nodes ≡ Some q) (number : q.number ≡ p.number) (calm : IsCalm request) where
+module _ (o : List ℕ) (x y : EntityData) (soundx : IsSoundEntity x) (soundy : IsSoundEntity y) (same : sight o x ≡ sight o y) (request : RequestParts) (p q : ResourceData) (inx : at p.number x.nodes ≡ Some p) (iny : at q.number y.nodes ≡ Some q) (number : q.number ≡ p.number) (calm : changes_rules request ≡ false) where
   seen_is : seen x.home x.nodes o p ≡ seen y.home y.nodes o q
   seen_is = seen_same o x y same p.number p q inx (ap (λ (n : ℕ). at n y.nodes) (sym number) ∙ iny)
 

@@ -3,9 +3,9 @@ use Rattle.sight_laws.proofs.Words.{ℤ, ◌==◌, ◌≡◌, ℕ, pos, List, []
 use Rattle.sight_laws.proofs.Terms.{attr_short, Attr, Acpi, Aei, Cbs, Cni, Cnm, Csi, Csy, Ct, Et, Lt, Macp, Mbs, Mia, Mid, Mni, Mt, Mtv, Pi, Pv, Pvs, Ri, Rn, St, TyAttr, Update, Ty, Ae, Container, ContentInstance, CseBase, Group, RemoteCse, Data, Entry, elements_of, list, number, text, AreSorted, member_of, RequestParts, Row, is_attr, value_of, ResourceData, id_of, is_ty, added_rows, base_rows, common_rows, container_rows, expiry_rows, shown_group_rows, parent_id, shown_count, shown_moment, shown_ty, wrapped, at, instances_of, sizes_of, are_admitted, is_named, edit_in, edited, may_name, Updating, evicted, limits_of, Limits, update_bit, is_attr_in, listed_in, NewValue, changed, do_judge, does_judge, with_changes, fills, has_bit, may_use, seen, seen_list, EntityData, next_state, MembershipData, group_rows, membership_edited, link_row, listed, policy_ids, expiry_for, named_by, may_do, expiry_after, is_told_at, own_rows, pushed_by, pushed_out, state_row, told_rows, updated_content, updated_resource, IsUpdatable}
 use Rattle.sight_laws.proofs.Facts.{and_from, both_ways, cases_Bool, eqb-true, false_from_ne_true, not-true, or_cases, or_from, or_left, or_parts, or_right, cond_both, map-append, list_any-append, same_type, is_attr-same, id_attrs_hold, both_chosen, seen_shows}
 use Rattle.primitive_json.specs.Kinds.{nothing_wanted}
-use Rattle.policy_laws.specs.Alike.{id_attrs}
+use Rattle.equal_sights.specs.Alike.{id_attrs}
 use Rattle.sight_laws.specs.Laws.{names_rules}
-use Rattle.sight_laws.specs.Sight.{sight}
+use Rattle.equal_sights.specs.Sight.{sight}
 use Rattle.sight_laws.proofs.ChangeRowsLemmas.{is_touched, rows_of, same_told, told_changes, told_of, touched_told, value_after}
 use Rattle.sight_laws.proofs.EditLemmas.{changes_then, edit_changes, edited_are, edits_pass, given_are, named_touched, row_changes, unnamed}
 use Rattle.sight_laws.proofs.EvictionLemmas.{evicted-seen}
@@ -136,19 +136,19 @@ changes_judge_none e es r sorted may calm =
 
 -- ---- what no update names
 
-never_ct : (ty : Ty) → may_name ty Ct ≡ false
+pub never_ct : (ty : Ty) → may_name ty Ct ≡ false
 never_ct Ae = refl
 never_ct _ = refl
 
-never_pi : (ty : Ty) → may_name ty Pi ≡ false
+pub never_pi : (ty : Ty) → may_name ty Pi ≡ false
 never_pi Ae = refl
 never_pi _ = refl
 
-never_cbs : (ty : Ty) → may_name ty Cbs ≡ false
+pub never_cbs : (ty : Ty) → may_name ty Cbs ≡ false
 never_cbs Ae = refl
 never_cbs _ = refl
 
-never_cni : (ty : Ty) → may_name ty Cni ≡ false
+pub never_cni : (ty : Ty) → may_name ty Cni ≡ false
 never_cni Ae = refl
 never_cni _ = refl
 

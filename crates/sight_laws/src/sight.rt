@@ -4,7 +4,7 @@ ghost use Rattle.primitive_json.specs.declared.request.RequestParts.{RequestPart
 ghost use Rattle.resource_model.specs.Home.{HomeData};
 ghost use Rattle.resource_model.specs.Resource.{ResourceData};
 ghost use Rattle.tree_model.specs.Tree.{is_well_formed};
-ghost use Rattle.policy_laws.specs.Seen.{seen_list};
+ghost use Rattle.equal_sights.specs.Seen.{seen_list};
 ghost use Rattle.retrieve_discover.specs.Replies.{discovered, retrieved};
 ghost use Rattle.addressing.specs.Names.{spot_of};
 

@@ -6,7 +6,7 @@ ghost use Rattle.addressing.specs.Addresses.{is_slash};
 ghost use Rattle.primitive_json.specs.Notes.{IsSomeUrl, IsSoundDest};
 ghost use Rattle.subscription_match.specs.Destinations as spec;
 
-use addressing::{Addr, AddrFault, Spot, name_spot, parse};
+use addressing::{Addr, AddrFault, Spot, name_segments, parse};
 use m2m_names::{Attr, Ty, read_url};
 use m2m_value::Text;
 use policy_eval::listed_in;
@@ -111,7 +111,7 @@ fn address_leads<T: Tree>(alloc: Global, tree: &T, addr: &Addr) -> Result<Dest, 
     ensures sound { IfOk result IsSoundDest }
 {
     match addr {
-        Addr::Local(_) => match ae_at(tree, name_spot(tree, addr)) {
+        Addr::Local(segments) => match ae_at(tree, name_segments(tree, segments)) {
             Some(ae) => reached_directly(alloc, tree, ae),
             None => Ok(Dest::Nowhere),
         },

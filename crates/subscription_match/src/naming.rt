@@ -1,4 +1,4 @@
-//! How this CSE and its subscriptions are named.
+//! How this CSE and its resources are named at others.
 ghost use Rattle.std.specs.Prelude.{◌≡◌, ◌++◌, IfOk, IsUtf8, OnOk};
 ghost use Rattle.resource_model.specs.Resource.{id_of};
 ghost use Rattle.subscription_match.specs.Notices as spec;
@@ -10,7 +10,7 @@ use std::alloc::{AllocError as OutOfMemory, Global};
 use tree_model::{Home, Resource};
 
 /// Own CSE-ID, with its slash, with room for so many bytes behind it.
-pub(crate) fn own_cse_id(alloc: Global, home: &Home, room: usize) -> Result<Text, OutOfMemory>
+pub fn own_cse_id(alloc: Global, home: &Home, room: usize) -> Result<Text, OutOfMemory>
     ensures value { IfOk result (λ t. t ≡ own_cse_id home.now) }
     ensures utf8 { IfOk result (λ t. IsUtf8 t) }
 {
@@ -35,8 +35,9 @@ fn push_id(bytes: &mut Vec<u8>, resource: &Resource) -> Result<(), OutOfMemory>
     bytes.extend_from_slice(Buffer::new().format(number).as_bytes())
 }
 
-/// A subscription as its notifications name it: the CSE-ID, `/`, and its resource id.
-pub(crate) fn reference_of(alloc: Global, home: &Home, sub: &Resource) -> Result<Text, OutOfMemory>
+/// A resource as requests to others name it, such as the subscription of a notification: the
+/// CSE-ID, `/`, and its resource id.
+pub fn reference_of(alloc: Global, home: &Home, sub: &Resource) -> Result<Text, OutOfMemory>
     ensures value { IfOk result (λ t. t ≡ spec.reference_of home.now sub.now) }
     ensures utf8 { IfOk result (λ t. IsUtf8 t) }
 {

@@ -2,6 +2,7 @@
 //! originator, and where a resource stands.
 ghost use Rattle.std.specs.Prelude.{◌≡◌, ◌<◌};
 
+use crate::lines::{number, word};
 use crate::samples::{parts, sample};
 use addressing::*;
 use m2m_value::Text;
@@ -12,7 +13,6 @@ use std::process::Abort;
 use std::sync::ledger::{Blank, Ledger};
 use std::test::Fail;
 use tree_model::{Home, Steps, Tree, stands_in};
-use tree_samples::{number, word};
 
 // Among them names of 64 and of 65 bytes, and addresses of 512 and of 513.
 const TOLD: &str = "\

@@ -1,4 +1,5 @@
 //! What the limits of a container push out, and what is overdue.
+use crate::lines::number;
 use crate::samples::{listed, parts, sample};
 use container_limits::{Limits, evictions, overdue};
 use m2m_names::read_digits;
@@ -6,7 +7,6 @@ use plain_tree::ListTree;
 use std::alloc::{AllocError, AllocGlobal, Global};
 use std::process::Abort;
 use std::test::Fail;
-use tree_samples::number;
 
 // The limits on count, bytes and age, the size of a new instance, the moment, and what goes; then
 // moments alone, and what is overdue.

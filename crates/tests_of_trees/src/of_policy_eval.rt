@@ -1,4 +1,5 @@
 //! Rights by the policies of a small tree.
+use crate::lines::{number, tree_of};
 use crate::samples::parts;
 use m2m_names::is_originator;
 use plain_tree::ListTree;
@@ -7,7 +8,6 @@ use std::alloc::{AllocGlobal, Global};
 use std::process::Abort;
 use std::test::Fail;
 use tree_model::{Home, stands_in};
-use tree_samples::{number, tree_of};
 
 const WORLD: &str = r#"1 cb r1 0 CAdmin 0 0 - {"acpi":["acp2"]}
 2 acp r2 1 CAdmin 0 0 - {"pv":{"acr":[{"acor":["CAdmin"],"acop":63},{"acor":["all"],"acop":1}]}}

@@ -1,10 +1,10 @@
 //! Trees for the tests, from a line for each resource.
+use crate::lines::{spelled, tree_of, word};
 use m2m_value::{OutOfMemory, Val};
 use plain_tree::ListTree;
 use std::alloc::Global;
 use std::process::Abort;
 use tree_model::{Home, Resource, Tree, attributes};
-use tree_samples::{spelled, tree_of, word};
 
 // Number, type, name, parent and owner; when it was created and changed and when it expires; and
 // what it has besides. An application entity that is called like a container, live or not, is one

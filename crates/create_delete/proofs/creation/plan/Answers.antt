@@ -20,6 +20,7 @@ prepare-requires-clause-parts g c =
       last = asked.last;
       size = asked.size;
       members = asked.members;
+      links = asked.links;
     }
 
 pub returns : goal.returns

@@ -8,7 +8,7 @@ use Rattle.create_delete.proofs.updating.prepare.Goals as goal
 pub returns-clause-may : goal.returns-clause-may
 returns-clause-may g c =
     subst (λ (r : ResourceData). IsReplacement c.args.entity.now r) (sym c.in_ok-resource.ensures)
-    (replacement c.args.entity.now c.args.update.now.named.now c.args.update.now.target.now c.requires.sound c.requires.allowed)
+    (replacement c.args.entity.now c.args.update.named.now c.args.update.target.now c.requires.sound c.requires.allowed)
 
 pub returns-clause-after : goal.returns-clause-after
 returns-clause-after g c =

@@ -1,4 +1,4 @@
-use Rattle.machine_laws.proofs.SightLemmas.{sight_has_shape, one_shape}
+use Rattle.machine_laws.proofs.ShapeLemmas.{sight_has_shape, one_shape}
 use Rattle.machine_laws.proofs.laws.a_sight_has_the_shape_of_its_entity.Goals as goal
 
 pub returns-clause-kept : goal.returns-clause-kept

@@ -2,4 +2,4 @@ use Rattle.machine_laws.proofs.SightLemmas.{outcome-seen}
 use Rattle.machine_laws.proofs.laws.an_originator_is_answered_by_what_it_sees.Goals as goal
 
 pub returns : goal.returns
-returns c = λ e o reading request sound by alone finds. outcome-seen e o reading request sound by alone finds
+returns c = outcome-seen

@@ -1,9 +1,9 @@
-use Rattle.std.proofs.Common.{◌∙◌, List, Some, sym, ap}
+use Rattle.std.proofs.Common.{◌∙◌, List, Some, sym, ap, subst}
 use Rattle.m2m_names.specs.declared.types.Ty.{Ty}
 use Rattle.m2m_value.specs.Data.{Entry}
 use Rattle.request_rules.specs.Creation.{name_for, size_named}
 use Rattle.request_rules.specs.Groups.{group_rows, membership_by}
-use Rattle.request_rules.specs.Judged.{IsCreateBy, IsCreateOf}
+use Rattle.request_rules.specs.Judged.{AreLinksOf, IsCreateBy, IsCreateOf}
 use Rattle.request_rules.specs.Requests.{content_for, expiry_for}
 use Rattle.request_rules.specs.declared.allowed.AllowedCreate.{AllowedCreate}
 use Rattle.request_rules.proofs.CreatingLemmas.{creation_refused}
@@ -30,5 +30,6 @@ returns g c =
       last = by.last;
       size = by.size ∙ ap (λ (es : List Entry). size_named es) (sym by.named);
       members = by.members ∙ ap (λ (t : Ty). group_rows e (membership_by t named)) (sym by.ty) ∙ ap (λ (es : List Entry). group_rows e (membership_by create.ty es)) (sym by.named);
+      links = subst (λ (es : List Entry). AreLinksOf e es create.links) (sym by.named) by.links;
     })
     c.judge_named.ensures

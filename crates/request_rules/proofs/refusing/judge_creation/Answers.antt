@@ -70,6 +70,7 @@ returns-in-Ok g c =
         last = c.expiry_for.ensures.last;
         size = c.size_named-size.ensures;
         members = kept.1;
+        links = c.requires.links;
       },
     )
 

@@ -1,5 +1,6 @@
 use Rattle.std.proofs.Common.{◌≡◌, ℕ, List, length, sym, subst, arith}
 use Rattle.std.specs.Prelude.{IfSome, false}
+use Rattle.entity_model.specs.Entity.{swept}
 use Rattle.cse_machine.specs.Step.{Step}
 use Rattle.cse_machine.specs.declared.event.Event.{Event}
 use Rattle.cse_machine.specs.declared.event.Outcome.{Outcome}
@@ -42,5 +43,5 @@ returns-in-Err-clause-sparing g c =
     let same = c.in-Err.ensures.err in
     let P : List ℕ → Type 0 = λ l. IfSome c.pass_over.result (λ (o : Outcome). differs c.args.self.now left.self ≡ false → left.lines.items ≡ l) in
     on_some (λ (o : Outcome). differs c.args.self.now left.self ≡ false → left.lines.items ≡ c.args.lines.now.items)
-    (λ (o : Outcome). may_change c.args.event.now o ≡ false → differs c.args.self.now left.self ≡ false → left.lines.items ≡ c.args.lines.now.items)
+    (λ (o : Outcome). may_change (swept c.args.reading c.args.self.now) c.args.event.now o left.self ≡ false → differs c.args.self.now left.self ≡ false → left.lines.items ≡ c.args.lines.now.items)
     (λ o spared none alike. spared alike) c.pass_over.result (subst P same c.pass_over.ensures.sparing)

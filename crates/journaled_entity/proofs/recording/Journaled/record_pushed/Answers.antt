@@ -1,5 +1,6 @@
 use Rattle.std.proofs.Common.{◌≡◌, ℕ, Bool, List, sym, ap, subst, ◌∙◌}
 use Rattle.std.specs.Prelude.{IfSome, false}
+use Rattle.entity_model.specs.Entity.{swept}
 use Rattle.cse_machine.specs.declared.event.Outcome.{Outcome}
 use Rattle.kept_object.specs.Records.{Records}
 use Rattle.journaled_entity.specs.Changes.{differs, may_change}
@@ -30,5 +31,5 @@ returns-else-has_own-clause-sparing g c = λ front size is.
     let same = is ∙ ap (λ (b : Bool). pushed b front c.args.moment c.args.event.now) c.if-has_own.false in
     let left = c.record_expiry.new in
     on_some (λ (o : Outcome). differs c.args.self.now left.self ≡ false → left.lines.items ≡ c.args.lines.now.items)
-    (λ (o : Outcome). may_change c.args.event.now o ≡ false → differs c.args.self.now left.self ≡ false → left.lines.items ≡ front)
+    (λ (o : Outcome). may_change (swept c.args.reading c.args.self.now) c.args.event.now o left.self ≡ false → differs c.args.self.now left.self ≡ false → left.lines.items ≡ front)
     (λ o spared none alike. spared alike ∙ same) c.record_expiry.result c.record_expiry.ensures.sparing

@@ -19,7 +19,7 @@ returns-in_ok-outcome-in-OfMachine-clause-records g c = c.in_ok-outcome-in-OfMac
 
 pub returns-in_ok-outcome-in-OfMachine-clause-sparing : goal.returns-in_ok-outcome-in-OfMachine-clause-sparing
 returns-in_ok-outcome-in-OfMachine-clause-sparing g c = λ none alike.
-    let asked = ap (λ (e : KeptEvent). may_change_kept c.args.reading c.args.self.now e (outcomes.OfMachine c.in_ok-outcome-in-OfMachine.outcome)) c.in-OfMachine.is in
+    let asked = ap (λ (e : KeptEvent). may_change_kept c.args.reading c.args.self.now e (outcomes.OfMachine c.in_ok-outcome-in-OfMachine.outcome) c.record_event.new.self) c.in-OfMachine.is in
     c.in_ok-outcome-in-OfMachine.ensures.sparing (sym asked ∙ none) alike
 
 -- which item is to be sent
@@ -32,7 +32,7 @@ pub returns-in-Next-clause-sparing : goal.returns-in-Next-clause-sparing
 returns-in-Next-clause-sparing g c =
     let left = c.record_look.new in
     on_some (λ (o : KeptOutcome). differs c.args.self.now left.self ≡ false → left.lines.items ≡ c.args.lines.now.items)
-    (λ (o : KeptOutcome). may_change_kept c.args.reading c.args.self.now c.args.event.now o ≡ false → differs c.args.self.now left.self ≡ false → left.lines.items ≡ c.args.lines.now.items)
+    (λ (o : KeptOutcome). may_change_kept c.args.reading c.args.self.now c.args.event.now o left.self ≡ false → differs c.args.self.now left.self ≡ false → left.lines.items ≡ c.args.lines.now.items)
     (λ o spared none alike. spared alike) c.record_look.result c.record_look.ensures.sparing
 
 -- it was sent
@@ -45,5 +45,5 @@ pub returns-in-Sent-clause-sparing : goal.returns-in-Sent-clause-sparing
 returns-in-Sent-clause-sparing g c =
     let left = c.record_sent.new in
     let P : KeptEvent → Type 0 = λ e.
-    IfSome c.record_sent.result (λ (o : KeptOutcome). may_change_kept c.args.reading c.args.self.now e o ≡ false → differs c.args.self.now left.self ≡ false → left.lines.items ≡ c.args.lines.now.items) in
+    IfSome c.record_sent.result (λ (o : KeptOutcome). may_change_kept c.args.reading c.args.self.now e o left.self ≡ false → differs c.args.self.now left.self ≡ false → left.lines.items ≡ c.args.lines.now.items) in
     subst P (sym c.in-Sent.is) c.record_sent.ensures.sparing

@@ -1,0 +1,11 @@
+use Rattle.std.proofs.Common.{◌-◌, ◌^◌}
+use Rattle.create_delete.proofs.GatheringLemmas.{GathersUpTo}
+use Rattle.create_delete.proofs.gathering.+gather.Given as goal
+
+-- the children before the place were gathered, with all below them
+abbrev pub invariant-loop-place : goal.invariant-loop-place
+invariant-loop-place g l = GathersUpTo (g.T.Tree.nodes l.tree) l.number l.place l.fn.numbers.items l.numbers.items
+
+-- numbers grow on the way down
+abbrev pub decreases-gather : goal.decreases-gather
+decreases-gather g l = 2 ^ 64 - l.number

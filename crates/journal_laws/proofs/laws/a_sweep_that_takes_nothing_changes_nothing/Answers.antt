@@ -1,5 +1,0 @@
-use Rattle.journal_laws.proofs.QuietLemmas.{quiet}
-use Rattle.journal_laws.proofs.laws.a_sweep_that_takes_nothing_changes_nothing.Goals as goal
-
-pub returns : goal.returns
-returns c = quiet

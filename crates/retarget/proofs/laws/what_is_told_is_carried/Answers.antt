@@ -1,5 +1,0 @@
-use Rattle.retarget.proofs.AnswerLemmas.{told_is_carried}
-use Rattle.retarget.proofs.laws.what_is_told_is_carried.Goals as goal
-
-pub returns : goal.returns
-returns c = told_is_carried
