@@ -2,29 +2,47 @@
 ghost use Rattle.std.specs.Prelude.{◌≡◌, ◌<◌, ◌≤◌, ◌*◌, None, IfSome};
 ghost use Rattle.std.specs.Duration.{as_nanos};
 
+use crate::log::Log;
 use m2m_io::Clock;
+use std::io::Eprint;
 use std::time;
 use std::time::Duration;
 
 /// The system's clock. Where it can't be read, the reading is 0.
-#[derive(Debug, Drop)]
+#[derive(Drop)]
 pub struct SystemClock<R> {
     rt: R,
+    /// On this log the figures are said, once they are due.
+    log: Option<Log<R>>,
 }
 
-impl<R: time::Clock> SystemClock<R> {
+impl<R: time::Clock + Eprint + Copy + Drop> SystemClock<R> {
     /// The clock of the runtime.
     pub fn new(rt: R) -> Self
         ensures silent { ⟦<SystemClock<R> as Clock>⟧.readings result ≡ None }
     {
-        SystemClock { rt }
+        SystemClock { rt, log: None }
+    }
+
+    /// Such a clock that sees at each reading whether the figures of a log are due, and says them
+    /// then. It is for who reads it often, and holds nobody up.
+    pub fn telling(log: Log<R>) -> Self
+        ensures silent { ⟦<SystemClock<R> as Clock>⟧.readings result ≡ None }
+    {
+        SystemClock {
+            rt: log.runtime(),
+            log: Some(log),
+        }
     }
 }
 
-impl<R: time::Clock> Clock for SystemClock<R> {
+impl<R: time::Clock + Eprint + Copy + Drop> Clock for SystemClock<R> {
     ghost readings = { λ _. None };
 
     fn now(&mut self) -> u64 {
+        if let Some(log) = &self.log {
+            log.say_figures();
+        }
         match self.rt.since_1970() {
             Ok(time) => time.as_secs(),
             Err(_) => 0,

@@ -3,6 +3,7 @@ ghost use Rattle.std.specs.Prelude.{◌≡◌};
 ghost use Rattle.std.specs.Io.{ReadsAtMost};
 
 use crate::clock::{millis_now, millis_of, since_start, time_left};
+use crate::doorway::{ON_ITS_WAY, Visitor, await_client};
 use crate::log::Log;
 use crate::scanner::RequestScanner;
 use m2m_io::{Connection, Failed, Sink, Source};
@@ -15,6 +16,12 @@ use std::time::{Clock, Duration};
 /// its first byte that is read alone, and for one reply. Then it is given up, which is a fault of
 /// its connection.
 pub const PATIENCE: u64 = 30;
+
+/// For so many milliseconds a client that says nothing between two messages isn't idle.
+const AT_REST: u64 = 1_000;
+
+/// An idle connection looks so often whether all workers are busy, in milliseconds.
+const LOOKING: u64 = 5_000;
 
 /// What a client still sends behind the last reply is read for so long at most, in milliseconds,
 const DRAINING: u64 = 1_000;
@@ -33,9 +40,9 @@ pub struct TcpConn<R: Clock + Eprint + Copy> {
     begun: Option<u64>,
     /// The moment from which on the server has been at work, in microseconds.
     busy: u64,
-    /// The next read waits less than `PATIENCE`.
+    /// The next read waits for what is left for a message.
     is_pressed: bool,
-    /// The client has ended its writing side.
+    /// The client has ended its writing side, or the connection is closed for another client.
     is_ended: bool,
     requests: Option<RequestScanner>,
     read_faults: u64,
@@ -128,7 +135,7 @@ impl<R: Clock + Eprint + Copy> Drop for TcpConn<R> {
             log,
             mut stream,
             peer: _,
-            begun: _,
+            begun,
             busy: _,
             is_pressed: _,
             is_ended,
@@ -140,6 +147,12 @@ impl<R: Clock + Eprint + Copy> Drop for TcpConn<R> {
         if is_whole && stream.shutdown(Shutdown::Write).is_ok() {
             drain(&log.runtime(), &mut stream);
         }
+        if let Some(figures) = log.figures() {
+            if begun.is_some() {
+                figures.end_request();
+            }
+            figures.end_connection();
+        }
     }
 }
 
@@ -147,13 +160,16 @@ impl<R: Clock + Eprint + Copy> TcpConn<R> {
     pub(crate) fn new(log: Log<R>, stream: TcpStream, peer: SocketAddr) -> io::Result<Self> {
         let patience = Some(Duration::from_secs(PATIENCE));
         stream.set_nodelay(true)?;
-        stream.set_read_timeout(patience)?;
+        stream.set_read_timeout(Some(Duration::from_millis(AT_REST)))?;
         stream.set_write_timeout(patience)?;
         let requests = if log.has_requests() {
             Some(RequestScanner::new(log.allocator())?)
         } else {
             None
         };
+        if let Some(figures) = log.figures() {
+            figures.begin_connection();
+        }
         Ok(TcpConn {
             log,
             stream,
@@ -175,7 +191,7 @@ impl<R: Clock + Eprint + Copy> TcpConn<R> {
     {
         let left = match self.begun {
             Some(begun) => patience_left(&self.log.runtime(), begun)?,
-            None if self.is_pressed => Duration::from_secs(PATIENCE),
+            None if self.is_pressed => Duration::from_millis(AT_REST),
             None => return Ok(()),
         };
         self.stream.set_read_timeout(Some(left))?;
@@ -193,6 +209,9 @@ impl<R: Clock + Eprint + Copy> TcpConn<R> {
             self.is_ended = true;
         } else if self.begun.is_none() {
             self.begun = Some(millis_of(now));
+            if let Some(figures) = self.log.figures() {
+                figures.begin_request();
+            }
         }
         if let Some(requests) = &mut self.requests {
             requests.hear(bytes);
@@ -212,6 +231,20 @@ impl<R: Clock + Eprint + Copy> TcpConn<R> {
         Ok(())
     }
 
+    /// The request that these bytes answer is done.
+    fn count_reply(&mut self, bytes: &[u8])
+        ensures reads { self.new.read_faults ≡ self.old.read_faults }
+        ensures writes { self.new.write_faults ≡ self.old.write_faults }
+    {
+        if let Some(figures) = self.log.figures() {
+            if self.begun.is_some() {
+                figures.end_request();
+            }
+            figures.reply(bytes.get(9).copied().unwrap_or(b'4'));
+        }
+        self.begun = None;
+    }
+
     /// A line for the request that these bytes answer.
     fn log_reply(&mut self, bytes: &[u8])
         ensures reads { self.new.read_faults ≡ self.old.read_faults }
@@ -223,7 +256,7 @@ impl<R: Clock + Eprint + Copy> TcpConn<R> {
         self.busy = now;
         if let Some(requests) = &mut self.requests {
             if let Ok(text) = requests.line(self.log.allocator(), &self.peer, bytes, taken) {
-                self.log.request(text.as_str());
+                self.log.tell(text.as_str());
             }
         }
     }
@@ -243,13 +276,64 @@ impl<R: Clock + Eprint + Copy> TcpConn<R> {
         }
     }
 
+    /// Waits until an idle client says something. Tells whether it does; else the connection is to
+    /// be closed, as all workers are busy and another client waits.
+    fn await_idle(&self) -> io::Result<bool> {
+        let rt = self.log.runtime();
+        let begun = millis_now(&rt);
+        for _ in 0..u64::MAX {
+            let Some(left) = time_left(&rt, begun, PATIENCE * 1_000 - AT_REST) else {
+                return Err(io::Error::from(ErrorKind::WouldBlock));
+            };
+            let left = millis_of(left).min(LOOKING);
+            let given = self.log.doorway().given();
+            match self.log.doorway().await_either(&self.stream, left) {
+                Visitor::Client => return Ok(true),
+                Visitor::Nobody => {}
+                Visitor::Newcomer => match await_client(&self.stream, ON_ITS_WAY) {
+                    Visitor::Nobody if self.gives_way(given) => return Ok(false),
+                    Visitor::Nobody | Visitor::Newcomer => {}
+                    Visitor::Client => return Ok(true),
+                },
+            }
+        }
+        Err(timed_out())
+    }
+
+    /// Whether this idle connection is closed for the client that waits since so many were let in.
+    fn gives_way(&self, given: u64) -> bool {
+        let doorway = self.log.doorway();
+        if !doorway.is_full_since(given) {
+            return false;
+        }
+        self.log.say_full();
+        doorway.claim(given)
+    }
+
     fn read_in_time(&mut self, buf: &mut [u8]) -> io::Result<usize>
         ensures bound { ReadsAtMost result buf.new }
         ensures reads { self.new.read_faults ≡ self.old.read_faults }
         ensures writes { self.new.write_faults ≡ self.old.write_faults }
     {
         self.press()?;
-        read_some(&mut self.stream, buf)
+        match read_some(&mut self.stream, buf) {
+            Err(error) if error.kind() == ErrorKind::WouldBlock && self.begun.is_none() =>
+                self.read_idle(buf),
+            read => read,
+        }
+    }
+
+    /// Reads what an idle client says; nothing where the connection is closed for another client.
+    fn read_idle(&mut self, buf: &mut [u8]) -> io::Result<usize>
+        ensures bound { ReadsAtMost result buf.new }
+        ensures reads { self.new.read_faults ≡ self.old.read_faults }
+        ensures writes { self.new.write_faults ≡ self.old.write_faults }
+    {
+        if self.await_idle()? {
+            read_some(&mut self.stream, buf)
+        } else {
+            Ok(0)
+        }
     }
 }
 
@@ -293,7 +377,7 @@ impl<R: Clock + Eprint + Copy> Sink for TcpConn<R> {
     fn put(&mut self, bytes: &[u8]) -> Result<(), Failed> {
         match self.write_in_time(bytes) {
             Ok(()) => {
-                self.begun = None;
+                self.count_reply(bytes);
                 self.log_reply(bytes);
                 Ok(())
             }

@@ -2,6 +2,7 @@
 ghost use Rattle.std.specs.Prelude.{◌≡◌, Some, None, false};
 
 use crate::TcpConn;
+use crate::clock::millis_now;
 use crate::log::Log;
 use libc::{EBADF, EINVAL, EMFILE, ENOMEM};
 use m2m_io::{Door, Failed};
@@ -188,6 +189,19 @@ fn accepted<R: Clock + Eprint + Copy>(listener: &TcpListener, log: &Log<R>) -> O
     None
 }
 
+/// The next client that is let in, if the socket gives one. One who has waited while no worker was
+/// left is spoken of.
+fn let_in<R: Clock + Eprint + Copy>(listener: &TcpListener, log: &Log<R>) -> Option<TcpConn<R>> {
+    let doorway = log.doorway();
+    if doorway.was_full(millis_now(&log.runtime())) {
+        log.say_full();
+    }
+    doorway.begin();
+    let conn = accepted(listener, log);
+    doorway.end(conn.is_some() as u64, millis_now(&log.runtime()));
+    conn
+}
+
 impl<R> Door for TcpDoor<R>
 where
     R: Net<Listener = TcpListener, Stream = TcpStream> + Clock + Eprint + Copy + Send,
@@ -210,6 +224,7 @@ where
     fn open(&mut self, at: &[u8]) -> Result<(), Failed> {
         match self.bound(at) {
             Ok(listener) => {
+                self.log.doorway().open(&listener);
                 self.listener = Some(listener);
                 match Vec::from_slice(self.log.allocator(), at) {
                     Ok(at) => self.address = Some(at),
@@ -231,7 +246,7 @@ where
         match self
             .listener
             .as_ref()
-            .and_then(|listener| accepted(listener, log))
+            .and_then(|listener| let_in(listener, log))
         {
             Some(conn) => {
                 self.given = self.given.saturating_add(1);

@@ -4,8 +4,8 @@
 //! An adapter counts the errors of its device, and tells what the device tells: streams, sockets
 //! and clocks of the system tell nothing of what they give and take. A connection gives its client
 //! up who says nothing for `PATIENCE` seconds, or takes longer than that for one message or for one
-//! reply. A door passes over what befalls one client, and waits where descriptors or memory are
-//! wanting.
+//! reply. Where all workers are busy and another client waits, an idle connection is closed for it.
+//! A door passes over what befalls one client, and waits where descriptors or memory are wanting.
 //!
 //! ```text
 //! let log = Log::new(rt, alloc, LogLevel::Faults)?;
@@ -17,6 +17,8 @@
 mod clock;
 mod conn;
 mod door;
+mod doorway;
+mod figures;
 mod log;
 mod scanner;
 mod streams;
@@ -24,5 +26,6 @@ mod streams;
 pub use clock::{SystemClock, millis_now, time_left};
 pub use conn::{PATIENCE, TcpConn};
 pub use door::TcpDoor;
+pub use figures::Figures;
 pub use log::{Log, LogLevel};
 pub use streams::{StdIn, StdOut, words};

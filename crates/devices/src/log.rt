@@ -1,4 +1,7 @@
 //! What a server writes on standard error for its operator.
+use crate::clock::millis_now;
+use crate::doorway::Doorway;
+use crate::figures::Figures;
 use libc::net::{POLLNVAL, POLLOUT, poll};
 use libc::types::pollfd;
 use m2m_names::write_stamp;
@@ -14,6 +17,8 @@ use std::{io, str};
 pub enum LogLevel {
     /// A line for each request, and one for each fault.
     Requests,
+    /// A line for each fault, and one of figures, once a minute at most.
+    Figures,
     /// A line for each fault.
     Faults,
     Nothing,
@@ -32,14 +37,38 @@ const MOST_TRIES: u64 = 100;
 /// The descriptor of standard error.
 const STANDARD_ERROR: i32 = 2;
 
+/// What is said once a minute at most is said again after so many milliseconds.
+const MINUTE: u64 = 60_000;
+
 /// What all who write to a log share: the second in which faults were written last, how many were,
-/// how many lines were left out since, and whether somebody writes.
+/// how many lines were left out since, and whether somebody writes; what is known of the listening
+/// socket, and the moment before which nothing more is said of it; the figures, the moment before
+/// which they aren't said again, and how much had happened when they were said last.
 #[derive(Drop)]
 struct Shared {
     second: AtomicU64,
     faults: AtomicU64,
     left_out: AtomicU64,
     writers: AtomicU64,
+    doorway: Doorway,
+    full_until: AtomicU64,
+    figures: Figures,
+    figures_until: AtomicU64,
+    happened: AtomicU64,
+}
+
+/// Whether this moment is none before which nothing more is said. Then another one is.
+fn is_due(until: &AtomicU64, now: u64) -> bool {
+    let before = until.load(Ordering::SeqCst);
+    now >= before
+        && until
+            .compare_exchange(
+                before,
+                now.saturating_add(MINUTE),
+                Ordering::SeqCst,
+                Ordering::SeqCst,
+            )
+            .is_ok()
 }
 
 /// A log on standard error, one of several handles of it. A line is left out, and counted, where
@@ -91,6 +120,11 @@ impl<R: Clock + Eprint + Copy + Drop> Log<R> {
             faults: AtomicU64::new(0),
             left_out: AtomicU64::new(0),
             writers: AtomicU64::new(0),
+            doorway: Doorway::new(),
+            full_until: AtomicU64::new(0),
+            figures: Figures::new(),
+            figures_until: AtomicU64::new(millis_now(&rt).saturating_add(MINUTE)),
+            happened: AtomicU64::new(0),
         };
         let shared = Arc::new(alloc, shared)?;
         Ok(Log {
@@ -206,8 +240,8 @@ impl<R: Clock + Eprint + Copy + Drop> Log<R> {
         shared.faults.fetch_add(1, Ordering::SeqCst) < MOST_A_SECOND
     }
 
-    /// A line for a request.
-    pub(crate) fn request(&self, text: &str) {
+    /// A line that is said at this level alone.
+    pub(crate) fn tell(&self, text: &str) {
         if !self.begin_line() {
             self.leave_out(1);
             return;
@@ -216,6 +250,44 @@ impl<R: Clock + Eprint + Copy + Drop> Log<R> {
             self.leave_out(1);
         }
         self.end_line();
+    }
+
+    /// What is known of the listening socket.
+    pub(crate) fn doorway(&self) -> &Doorway {
+        &self.shared.doorway
+    }
+
+    /// Says that a client waits while all workers are busy, once a minute at most.
+    pub(crate) fn say_full(&self) {
+        if is_due(&self.shared.full_until, millis_now(&self.rt)) {
+            self.fault("all workers are busy, and a client waits");
+        }
+    }
+
+    /// What is done and was, where a line says it.
+    pub fn figures(&self) -> Option<&Figures> {
+        if self.level == LogLevel::Figures {
+            Some(&self.shared.figures)
+        } else {
+            None
+        }
+    }
+
+    /// Says the figures, once a minute at most, and where something has happened meanwhile.
+    pub(crate) fn say_figures(&self) {
+        let Some(figures) = self.figures() else {
+            return;
+        };
+        if !is_due(&self.shared.figures_until, millis_now(&self.rt)) {
+            return;
+        }
+        let happened = figures.happened();
+        if self.shared.happened.swap(happened, Ordering::SeqCst) == happened {
+            return;
+        }
+        if let Ok(text) = figures.line(self.alloc) {
+            self.tell(text.as_str());
+        }
     }
 
     /// A line for a fault, where faults are logged and not too many came in this second.

@@ -23,6 +23,9 @@ const USUAL_LINE: usize = 512;
 /// end one more that began before it.
 const MOST_WAITING: usize = 293;
 
+/// The head of a reply of ours has no more lines than so many.
+const MOST_HEADERS: usize = 16;
+
 /// Which part of a message comes next.
 #[derive(Clone, Copy, Debug, PartialEq, Eq)]
 enum Part {
@@ -75,6 +78,16 @@ fn value_of<'a>(line: &'a [u8], name: &[u8]) -> Option<&'a [u8]> {
     } else {
         None
     }
+}
+
+/// The status code of oneM2M that the head of a reply tells; empty where it tells none.
+fn code_in(reply: &[u8]) -> &[u8] {
+    for line in reply.split(|b| *b == b'\n').take(MOST_HEADERS) {
+        if let Some(value) = value_of(line, b"x-m2m-rsc") {
+            return value;
+        }
+    }
+    b""
 }
 
 /// What is logged of these bytes: their front.
@@ -244,7 +257,8 @@ impl RequestScanner {
     }
 
     /// What the log says of the first request that waits, to which this was replied after so many
-    /// microseconds: the client, the originator, method and target, the status, and the time.
+    /// microseconds: the client, the originator, method and target, the status of HTTP and the code
+    /// of oneM2M, and the time.
     pub(crate) fn line(
         &mut self,
         alloc: Global,
@@ -257,7 +271,10 @@ impl RequestScanner {
         let method = escaped(alloc, word_at(&request.first, 0))?;
         let target = escaped(alloc, word_at(&request.first, 1))?;
         let status = escaped(alloc, reply.get(9..12).unwrap_or(b""))?;
+        let code = escaped(alloc, logged(code_in(reply)))?;
         let length = reply.len();
-        format!(in alloc; "{peer} {originator} {method} {target} {status} {length}B {micros}us")
+        format!(in alloc;
+            "{peer} {originator} {method} {target} {status} {code} {length}B {micros}us"
+        )
     }
 }

@@ -3,7 +3,7 @@ ghost use Rattle.std.specs.Prelude.{◌≡◌, [], ⊤, IsErr};
 ghost use Rattle.m2m_io.specs.Counts.{CountsFaults};
 
 use crate::OpenFault;
-use crate::opening::{is_absent, make, make_like, open_there, place, sync_name};
+use crate::opening::{is_absent, make, make_like, open_filled, open_there, place, sync_name};
 use crate::operator::Operator;
 use kept_file::{Failed, FileFault, KeptFile, KeptName};
 use std::alloc::{AllocError, Global};
@@ -21,13 +21,14 @@ pub struct DiskFile {
 }
 
 impl DiskFile {
-    /// Opens the file of a name. Where nothing has it, the file is made with these bytes.
+    /// Opens the file of a name. Where nothing has it, or a file without a byte, the file is made
+    /// with these bytes.
     pub fn open(rt: &HostRuntime, path: &str, first: &[u8]) -> Result<DiskFile, OpenFault> {
         let operator = Operator::new(rt, path)?;
         let file = if is_absent(rt, path)? {
             make(rt, path, first)?
         } else {
-            open_there(rt, path)?
+            open_filled(rt, path, first)?
         };
         Ok(DiskFile {
             file,
@@ -127,6 +128,13 @@ impl KeptFile for DiskFile {
     fn cut(&mut self, len: usize) -> Result<(), Failed> {
         let done = self.file.set_len(len as u64);
         self.counted(done)
+    }
+
+    fn set_aside(&mut self, bytes: &[u8], what: &str) -> Result<(), Failed> {
+        match self.operator.keep_for(bytes, what) {
+            Ok(()) => Ok(()),
+            Err(_) => self.fail(),
+        }
     }
 
     fn sync(&mut self) -> Result<(), Failed> {

@@ -2,11 +2,14 @@
 //!
 //! `DiskFile::open` takes a lock on the file, so that no second program has it, and sees to it that
 //! what is read of it is what stands on the disk: it syncs the file and its folder, and has the
-//! system drop the pages that it holds of it. Where there is no file of that name, it makes one
-//! with the bytes that it is given, under another name first, so that a crash leaves none or a
-//! whole one. A `DiskName` is the name of such a file, in whose place the crate kept_file puts
+//! system drop the pages that it holds of it. Where there is no file of that name, or one without a
+//! byte, it makes one with the bytes that it is given, under another name first, so that a crash
+//! leaves what was there or a whole one. A `DiskName` is the name of such a file, in whose place the crate kept_file puts
 //! another one, which gets the owner and the rights of the old one. A `NamedDiskFile` is a file
 //! with its name.
+//!
+//! What is cut away of a file is kept beside it as `FILE.cut`, and what that had in it as
+//! `FILE.cut.1`, `FILE.cut.2` and so on.
 //!
 //! Where the system gives an error, it is told on standard error what the error is, as contracts
 //! have no more of it than that the file failed.
@@ -23,6 +26,7 @@
 //! ```
 #![tactic(auto)]
 
+mod aside;
 mod fault;
 mod file;
 mod named;
@@ -32,3 +36,4 @@ mod operator;
 pub use fault::OpenFault;
 pub use file::{DiskFile, DiskName};
 pub use named::NamedDiskFile;
+pub use opening::is_new;

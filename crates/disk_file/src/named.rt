@@ -25,7 +25,8 @@ fn made_beside(name: &mut DiskName, bytes: &[u8]) -> Result<DiskFile, Failed> {
 }
 
 impl NamedDiskFile {
-    /// Opens the file of a name. Where nothing has it, the file is made with these bytes.
+    /// Opens the file of a name. Where nothing has it, or a file without a byte, the file is made
+    /// with these bytes.
     pub fn open(rt: &HostRuntime, path: &str, first: &[u8]) -> Result<NamedDiskFile, OpenFault> {
         let file = DiskFile::open(rt, path, first)?;
         let name = DiskName::new(rt, path)?;
@@ -64,6 +65,10 @@ impl KeptFile for NamedDiskFile {
 
     fn cut(&mut self, len: usize) -> Result<(), Failed> {
         self.file.cut(len)
+    }
+
+    fn set_aside(&mut self, bytes: &[u8], what: &str) -> Result<(), Failed> {
+        self.file.set_aside(bytes, what)
     }
 
     fn sync(&mut self) -> Result<(), Failed> {

@@ -78,7 +78,7 @@ fn beside(rt: &HostRuntime, path: &str) -> Result<String, AllocError> {
 }
 
 /// Makes a file without a byte beside the one that has a name, if any has it, with a lock.
-fn make_beside(rt: &HostRuntime, path: &str) -> Result<File, OpenFault> {
+pub(crate) fn make_beside(rt: &HostRuntime, path: &str) -> Result<File, OpenFault> {
     let beside = beside(rt, path)?;
     let file = open_plain(rt, beside.as_str(), true)?;
     lock(&file)?;
@@ -117,6 +117,29 @@ pub(crate) fn sync_name(rt: &HostRuntime, path: &str) -> Result<(), OpenFault> {
     Ok(())
 }
 
+fn write_whole(file: &File, bytes: &[u8]) -> io::Result<()> {
+    file.write_all_at(bytes, 0)?;
+    file.sync_all()
+}
+
+/// Writes all of a file that has no byte yet. Where that fails, the place that it takes is given
+/// back, as the disk may be full.
+pub(crate) fn fill(file: &File, bytes: &[u8]) -> io::Result<()> {
+    let done = write_whole(file, bytes);
+    if done.is_err() {
+        let _ = file.set_len(0);
+    }
+    done
+}
+
+/// Gives a name to the file that was made beside it, with these bytes in it.
+fn place_with(rt: &HostRuntime, file: &File, path: &str, bytes: &[u8]) -> Result<(), OpenFault> {
+    fill(file, bytes)?;
+    place(rt, path)?;
+    settle(rt, file, path)?;
+    Ok(())
+}
+
 /// Makes a file with these bytes, where nothing has the name. Who makes one has the lock on the
 /// file beside it; so another program that made one meanwhile is seen.
 pub(crate) fn make(rt: &HostRuntime, path: &str, bytes: &[u8]) -> Result<File, OpenFault> {
@@ -124,11 +147,29 @@ pub(crate) fn make(rt: &HostRuntime, path: &str, bytes: &[u8]) -> Result<File, O
     if !is_absent(rt, path)? {
         return Err(OpenFault::Busy);
     }
-    file.write_all_at(bytes, 0)?;
-    file.sync_all()?;
-    place(rt, path)?;
-    settle(rt, &file, path)?;
+    place_with(rt, &file, path, bytes)?;
     Ok(file)
+}
+
+/// Opens a file that is there, with a lock. In the place of one without a byte it puts one with
+/// these bytes.
+pub(crate) fn open_filled(rt: &HostRuntime, path: &str, bytes: &[u8]) -> Result<File, OpenFault> {
+    let file = open_there(rt, path)?;
+    if file.metadata()?.len() > 0 {
+        return Ok(file);
+    }
+    let filled = make_like(rt, path)?;
+    place_with(rt, &filled, path, bytes)?;
+    Ok(filled)
+}
+
+/// Whether a file of this name would be made by an opening: nothing has the name, or a plain file
+/// without a byte.
+pub fn is_new(rt: &HostRuntime, path: &str) -> bool {
+    match fs::symlink_metadata(rt, path) {
+        Ok(found) => found.is_file() && found.len() == 0,
+        Err(error) => error.kind() == io::ErrorKind::NotFound,
+    }
 }
 
 /// Whether nothing has this name.

@@ -1,4 +1,6 @@
 //! Who runs the program.
+use crate::OpenFault;
+use crate::aside::set_aside;
 use libc::net::{POLLNVAL, POLLOUT, poll};
 use libc::types::pollfd;
 use std::alloc::AllocError;
@@ -36,14 +38,32 @@ impl Operator {
         })
     }
 
+    /// Writes a line, if there was memory for it.
+    fn write(&self, line: Result<String, AllocError>) {
+        if let (true, Ok(line)) = (self.hears, line) {
+            let _ = self.rt.eprint(line.as_str());
+        }
+    }
+
     /// Tells why the file failed.
     pub(crate) fn tell(&self, error: io::Error) {
-        if !self.hears {
-            return;
-        }
         let name = self.name.as_str();
-        if let Ok(line) = format!(in self.rt.alloc(); "{name}: {error}\n") {
-            let _ = self.rt.eprint(line.as_str());
+        self.write(format!(in self.rt.alloc(); "{name}: {error}\n"));
+    }
+
+    /// Keeps bytes of the file beside it, and tells what they are, or why they can't be kept.
+    pub(crate) fn keep_for(&self, bytes: &[u8], what: &str) -> Result<(), OpenFault> {
+        let name = self.name.as_str();
+        let alloc = self.rt.alloc();
+        match set_aside(&self.rt, name, bytes) {
+            Ok(()) => {
+                self.write(format!(in alloc; "{name}: {what}; {name}.cut has them\n"));
+                Ok(())
+            }
+            Err(fault) => {
+                self.write(format!(in alloc; "{name}: {what}; cannot make {name}.cut: {fault}\n"));
+                Err(fault)
+            }
         }
     }
 }

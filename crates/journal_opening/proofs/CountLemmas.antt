@@ -28,6 +28,17 @@ counts_none r s fault before now one two counts = record {
   steady = λ no. counts.steady one;
 }
 
+-- a success, and then a call that counts
+pub counts_then : {T U E : Type 0} (r : Result T E) (s : Result U E) (fault : E) (before mid now : ℕ) → r ≢ Err fault → CountsFault fault r before mid
+    → CountsFault fault s mid now → CountsFault fault s before now
+counts_then r s fault before mid now one first last =
+    let still : mid ≡ before = first.steady one in
+    record {
+      count = omega (arith, still, last.count);
+      cause = λ is. subst (λ n. Rose n now) still (last.cause is);
+      steady = λ no. last.steady no ∙ still;
+    }
+
 -- a success, and then this fault
 pub counts_last : {T U V E D : Type 0} (r : Result T E) (q : Result V D) (s : Result U E) (fault : E) (d : D) (before mid now : ℕ) → r ≢ Err fault → q ≡ Err d → s ≡ Err fault
     → CountsFault fault r before mid → CountsFaults q mid now → CountsFault fault s before now

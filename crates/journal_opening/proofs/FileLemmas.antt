@@ -41,6 +41,23 @@ module _ {F : Type 0} (seen : F → List ℕ) (may_leave : F → List ℕ → Ty
         any_moment = run.leaves;
       }
 
+  -- no call
+  pub stays_here : (x : F) → LeavesThis (seen x) (may_leave x) → StaysAsItWas seen may_leave moment left_since x x
+  stays_here x kept =
+      let start = begins seen may_leave moment left_since only_now (λ c. c ≡ seen x) x kept refl in
+      record { same = refl; kept = kept; any_moment = start.leaves }
+
+-- one call after another
+pub stays_then : {F : Type 0} (seen : F → List ℕ) (may_leave : F → List ℕ → Type 0) (moment : F → ℕ) (left_since : F → ℕ → List ℕ → Type 0)
+    (old mid new : F) → StaysAsItWas seen may_leave moment left_since old mid → StaysAsItWas seen may_leave moment left_since mid new
+    → StaysAsItWas seen may_leave moment left_since old new
+stays_then seen may_leave moment left_since old mid new first second = record {
+  same = second.same ∙ first.same;
+  kept = second.kept;
+  any_moment = runs_on moment left_since old mid new (λ c. c ≡ seen old) first.any_moment
+      (leaves_wider moment left_since mid new (λ c. c ≡ seen mid) (λ c. c ≡ seen old) (λ c is. is ∙ first.same) second.any_moment);
+}
+
 -- what a file keeps that stays as it was
 pub stays_keeps : {F : Type 0} (seen : F → List ℕ) (may_leave : F → List ℕ → Type 0) (moment : F → ℕ) (left_since : F → ℕ → List ℕ → Type 0)
     (old new : F) (text : List ℕ) → StaysAsItWas seen may_leave moment left_since old new → KeepsText text (seen old)

@@ -22,6 +22,7 @@
 //! ```
 #![tactic(auto)]
 
+mod aside;
 mod fault;
 mod first;
 mod laws;

@@ -15,6 +15,7 @@ ghost use Rattle.journal_opening.specs.Opening.{snapshot_fault};
 ghost use Rattle.journal_opening.specs.declared.fault.OpeningFault.{OpeningFault};
 ghost use Rattle.journal_opening.specs.declared.fault.OpeningFault.TheVariants.{Failed as failed};
 
+use crate::aside::set_aside;
 use crate::fault::OpeningFault;
 use crate::playing::play_lines;
 use entity_model::Entity;
@@ -142,9 +143,9 @@ fn read_bytes<F: KeptFile>(alloc: Global, file: &mut F) -> Result<Vec<u8>, Openi
     }
 }
 
-/// The entity of a home that the journal in a file makes, in a tree that has no resource yet; the
-/// file stays as it was. What a crash may leave of the file is what is read of it, as behind a
-/// restart.
+/// The entity of a home that the journal in a file makes, in a tree that has no resource yet. The
+/// file stays as it was, and what stands behind the journal's text is set aside. What a crash may
+/// leave of the file is what is read of it, as behind a restart.
 pub fn play_file<F: KeptFile, T: Tree>(
     alloc: Global,
     file: &mut F,
@@ -164,7 +165,9 @@ pub fn play_file<F: KeptFile, T: Tree>(
     ensures faults { CountsFault failed result (F.faults file.old) (F.faults file.new) }
 {
     let bytes = read_bytes(alloc, file)?;
-    play_bytes(alloc, &bytes, home, tree)
+    let played = play_bytes(alloc, &bytes, home, tree)?;
+    set_aside(alloc, file, &bytes, played.len)?;
+    Ok(played)
 }
 
 /// Opens the entity of a home at the journal that a file keeps: does again what was done, in a tree

@@ -77,7 +77,7 @@ fn ends_in(bytes: &[u8]) -> usize
 }
 
 /// The number of the line that begins at a place.
-fn line_number(bytes: &[u8], place: usize) -> usize
+pub(crate) fn line_number(bytes: &[u8], place: usize) -> usize
     requires { place < length bytes.now }
     ensures { result ≡ line_number bytes.now place }
 {

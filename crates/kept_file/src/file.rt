@@ -60,6 +60,16 @@ pub trait KeptFile {
             (left_since self.old) (left_since self.new) (may_leave self.new) }
         ensures faults { CountsFaults result (faults self.old) (faults self.new) };
 
+    /// Keeps bytes of the file, which are about to be cut away or replaced, where whoever runs the
+    /// program finds them, and tells what they are. The file stays as it is. Where these bytes are
+    /// kept, no clause says.
+    fn set_aside(&mut self, bytes: &[u8], what: &str) -> Result<(), Failed>
+        ensures seen { tells → seen self.new ≡ seen self.old }
+        ensures crash { tells → LeavesNoMore (may_leave self.old) (may_leave self.new) }
+        ensures time { tells → GoesOn (moment self.old) (moment self.new)
+            (left_since self.old) (left_since self.new) (may_leave self.new) }
+        ensures faults { CountsFaults result (faults self.old) (faults self.new) };
+
     /// Has a crash leave from then on what a read gives.
     fn sync(&mut self) -> Result<(), Failed>
         ensures durable { tells → OnOk result (LeavesThis (seen self.old) (may_leave self.new)) }

@@ -291,6 +291,13 @@ impl KeptFile for MemFile {
         self.finish(fails, torn)
     }
 
+    fn set_aside(&mut self, _: &[u8], _: &str) -> Result<(), Failed> {
+        if self.begin() {
+            return self.fail();
+        }
+        Ok(())
+    }
+
     fn sync(&mut self) -> Result<(), Failed> {
         if self.begin() {
             return self.fail();

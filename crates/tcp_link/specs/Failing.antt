@@ -1,14 +1,14 @@
--- How long a destination that failed is left alone, and when its faults are said.
+-- How long a mute destination is left alone, and when the faults of one are said.
 use Rattle.std.specs.Prelude.{ℕ, ◌+◌, ◌-◌, ◌*◌, ◌^◌, min, max, Bool, ◌||◌, ◌&&◌, nat_lt, nat_le}
 
 -- a moment so much later, in milliseconds, up to the last one
 abbrev pub later : ℕ → ℕ → ℕ
 later now millis = min (now + millis) (2 ^ 64 - 1)
 
--- How long a destination is left alone that fails, and was left alone so long before: ten seconds,
--- and twice as long each time, up to five minutes.
+-- How long a destination is left alone that is mute, and was left alone so long before: a second,
+-- and twice as long each time, up to a minute.
 abbrev pub next_wait : ℕ → ℕ
-next_wait wait = min (max 10000 (2 * wait)) 300000
+next_wait wait = min (max 1000 (2 * wait)) 60000
 
 -- the faults of a destination may be said again after a minute
 abbrev pub silence : ℕ

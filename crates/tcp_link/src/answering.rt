@@ -5,8 +5,8 @@ ghost use Rattle.std.specs.Io.{ReadsAtMost};
 
 use devices::time_left;
 use http_frames::{Found, Frame, FrameFault, Inbox, Lines, Next, Start};
-use m2m_io::{Failed, LinkFault, Source};
-use std::alloc::Global;
+use m2m_io::{Failed, Source};
+use std::alloc::{AllocError, Global};
 use std::io;
 use std::io::{ErrorKind, Read, Write};
 use std::net::TcpStream;
@@ -66,11 +66,35 @@ impl Pace {
     }
 }
 
+/// Why an exchange failed.
+#[derive(Clone, Copy, Debug, PartialEq, Eq)]
+pub(crate) enum ExchangeFault {
+    /// The other side took no connection in time, or it took and said nothing for too long.
+    Mute,
+    /// The other side refused the connection, or ended it without an answer, or said too much.
+    Refused,
+    OutOfMemory,
+}
+
+impl From<AllocError> for ExchangeFault {
+    fn from(_: AllocError) -> Self {
+        ExchangeFault::OutOfMemory
+    }
+}
+
+/// What an error of the other side's connection means.
+pub(crate) fn fault_of(error: &io::Error) -> ExchangeFault {
+    match error.kind() {
+        ErrorKind::TimedOut | ErrorKind::WouldBlock => ExchangeFault::Mute,
+        _ => ExchangeFault::Refused,
+    }
+}
+
 /// What came of a request that was sent.
 pub(crate) enum SendOutcome {
     /// An answer.
     Answer(Vec<u8>),
-    /// The beginning of one, which wasn't whole in time, or is too long.
+    /// The beginning of one, which wasn't whole in time.
     Part,
     /// Nothing yet, at this connection.
     Nothing(TcpStream),
@@ -85,8 +109,8 @@ pub(crate) struct ExchangeConn<R> {
     /// The moment at which the exchange began, in milliseconds.
     begun: u64,
     heard: Vec<u8>,
-    /// Memory ran out for what came.
-    is_starved: bool,
+    /// Why reading failed last.
+    fault: ExchangeFault,
     faults: u64,
     ghost few: { length heard.items ≤ 2097152 },
 }
@@ -183,7 +207,8 @@ impl<R: Clock + Copy> Source for ExchangeConn<R> {
     fn read(&mut self, buf: &mut [u8]) -> Result<usize, Failed> {
         match self.read_some(buf) {
             Ok(n) => Ok(n),
-            Err(_) => {
+            Err(fault) => {
+                self.fault = fault;
                 self.faults = self.faults.saturating_add(1);
                 Err(Failed)
             }
@@ -200,75 +225,67 @@ impl<R: Clock + Copy> ExchangeConn<R> {
             pace,
             begun,
             heard: Vec::new(alloc),
-            is_starved: false,
+            fault: ExchangeFault::Refused,
             faults: 0,
         }
     }
 
     /// Keeps what came, unless it is too much.
-    fn keep(&mut self, bytes: &[u8]) -> io::Result<()>
+    fn keep(&mut self, bytes: &[u8]) -> Result<(), ExchangeFault>
         ensures { self.new.faults ≡ self.old.faults }
     {
         if bytes.len() > MOST_BYTES - self.heard.len() {
-            return Err(io::Error::from(ErrorKind::InvalidData));
+            return Err(ExchangeFault::Refused);
         }
-        if let Err(error) = self.heard.extend_from_slice(bytes) {
-            self.is_starved = true;
-            return Err(io::Error::from(error));
-        }
+        self.heard.extend_from_slice(bytes)?;
         Ok(())
     }
 
-    fn read_some(&mut self, buf: &mut [u8]) -> io::Result<usize>
+    fn read_some(&mut self, buf: &mut [u8]) -> Result<usize, ExchangeFault>
         ensures bound { ReadsAtMost result buf.new }
         ensures faults { self.new.faults ≡ self.old.faults }
     {
-        let n = read_in_time(&self.rt, &mut self.stream, self.begun, self.pace, buf)?;
-        self.keep(&buf[..n])?;
-        Ok(n)
-    }
-
-    /// Why reading ended.
-    fn fault(&self) -> LinkFault {
-        if self.is_starved {
-            LinkFault::OutOfMemory
-        } else {
-            LinkFault::Failed
+        match read_in_time(&self.rt, &mut self.stream, self.begun, self.pace, buf) {
+            Ok(n) => {
+                self.keep(&buf[..n])?;
+                Ok(n)
+            }
+            Err(error) => Err(fault_of(&error)),
         }
     }
 
     /// Reads until the other side ends the connection.
-    fn hear_to_end(&mut self) -> Result<(), LinkFault> {
+    fn hear_to_end(&mut self) -> Result<(), ExchangeFault> {
         let mut buf = [0u8; PIECE];
         for _ in 0..=MOST_BYTES {
             match self.read(&mut buf) {
                 Ok(0) => return Ok(()),
                 Ok(_) => {}
-                Err(Failed) => return Err(self.fault()),
+                Err(Failed) => return Err(self.fault),
             }
         }
-        Err(LinkFault::Failed)
+        Err(ExchangeFault::Refused)
     }
 
     /// Reads up to the end of one answer. What can't be a reply is an answer too; nothing at all is
     /// none.
-    fn hear(&mut self, alloc: Global) -> Result<(), LinkFault> {
+    fn hear(&mut self, alloc: Global) -> Result<(), ExchangeFault> {
         let mut inbox = Inbox::new(alloc)?;
         match inbox.next_reply(alloc, self) {
             Ok(Next::Message(frame)) if says_its_end(&frame) => Ok(()),
             Ok(Next::Message(_)) => self.hear_to_end(),
-            Ok(Next::End) => Err(LinkFault::Failed),
+            Ok(Next::End) => Err(ExchangeFault::Refused),
             Err(FrameFault::NoFrame) => Ok(()),
-            Err(FrameFault::ReadFault) => Err(self.fault()),
-            Err(FrameFault::OutOfMemory) => Err(LinkFault::OutOfMemory),
+            Err(FrameFault::ReadFault) => Err(self.fault),
+            Err(FrameFault::OutOfMemory) => Err(ExchangeFault::OutOfMemory),
         }
     }
 
     /// Sends the request.
-    fn send(&mut self, request: &[u8]) -> Result<(), LinkFault> {
+    fn send(&mut self, request: &[u8]) -> Result<(), ExchangeFault> {
         match write_in_time(&self.rt, &mut self.stream, self.begun, self.pace, request) {
             Ok(()) => Ok(()),
-            Err(_) => Err(LinkFault::Failed),
+            Err(error) => Err(fault_of(&error)),
         }
     }
 
@@ -278,21 +295,25 @@ impl<R: Clock + Copy> ExchangeConn<R> {
     }
 
     /// Hears the answer, where this exchange waits for it.
-    fn hear_in_time(&mut self, alloc: Global) -> Result<(), LinkFault> {
+    fn hear_in_time(&mut self, alloc: Global) -> Result<(), ExchangeFault> {
         if self.pace == Pace::AtOnce {
-            return Err(LinkFault::Failed);
+            return Err(ExchangeFault::Mute);
         }
         self.hear(alloc)
     }
 
     /// Sends the request, and hears what comes of it.
-    pub(crate) fn asked(mut self, alloc: Global, request: &[u8]) -> Result<SendOutcome, LinkFault>
+    pub(crate) fn asked(
+        mut self,
+        alloc: Global,
+        request: &[u8],
+    ) -> Result<SendOutcome, ExchangeFault>
         ensures { IfOk result (λ heard. HasFew heard) }
     {
         self.send(request)?;
         match self.hear_in_time(alloc) {
             Ok(()) => Ok(SendOutcome::Answer(self.into_parts().0)),
-            Err(LinkFault::Failed) if self.is_awaited() => Ok(self.heard_in_part()),
+            Err(ExchangeFault::Mute) if self.is_awaited() => Ok(self.heard_in_part()),
             Err(fault) => Err(fault),
         }
     }
@@ -319,7 +340,7 @@ impl<R: Clock + Copy> ExchangeConn<R> {
             pace: _,
             begun: _,
             heard,
-            is_starved: _,
+            fault: _,
             faults: _,
         } = self;
         (heard, stream)

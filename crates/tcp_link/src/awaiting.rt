@@ -24,8 +24,10 @@ pub(crate) enum Fate {
     Open,
     /// Its answer.
     Answered,
+    /// The end of its connection.
+    Ended,
     /// Nothing, and it isn't waited for any longer.
-    Failed,
+    Mute,
 }
 
 /// A request that was sent, and not answered yet when it was looked at last.
@@ -78,8 +80,8 @@ impl Awaited {
         self.since.saturating_add(PATIENCE) <= now
     }
 
-    /// The moment at which it failed, where it has by this one: it wasn't awaited any longer.
-    pub(crate) fn failed_at(&self, now: u64) -> u64
+    /// The moment at which it was given up, where it is by this one.
+    pub(crate) fn given_up_at(&self, now: u64) -> u64
         ensures { result ≡ min (later self.now.since PATIENCE) now }
     {
         self.since.saturating_add(PATIENCE).min(now)
@@ -89,10 +91,11 @@ impl Awaited {
     fn look(&mut self, now: u64) {
         let mut buf = [0u8; PIECE];
         self.fate = match self.stream.read(&mut buf) {
-            Ok(0) => Fate::Failed,
+            Ok(0) => Fate::Ended,
             Ok(_) => Fate::Answered,
-            Err(error) if error.kind() == ErrorKind::WouldBlock && !self.is_late(now) => Fate::Open,
-            Err(_) => Fate::Failed,
+            Err(error) if error.kind() != ErrorKind::WouldBlock => Fate::Ended,
+            Err(_) if self.is_late(now) => Fate::Mute,
+            Err(_) => Fate::Open,
         };
     }
 }

@@ -81,8 +81,14 @@ fn share_of<R: Clock>(rt: &R, begun: u64, patience: u64, tries: usize) -> io::Re
     }
 }
 
+/// Whether an error says that nothing came in time.
+fn is_late(error: &io::Error) -> bool {
+    error.kind() == ErrorKind::TimedOut
+}
+
 /// A connection to the first of these addresses that takes one: they are tried in turn, within so
-/// many milliseconds since this moment.
+/// many milliseconds since this moment. Where none does, the error says so if one of them was
+/// mute.
 pub(crate) fn connected<R>(
     rt: &R,
     found: &[SocketAddr],
@@ -97,7 +103,8 @@ where
         let share = share_of(rt, begun, patience, found.len() - i)?;
         match TcpStream::connect_timeout(rt, address, share) {
             Ok(stream) => return Ok(stream),
-            Err(error) => last = error,
+            Err(error) if !is_late(&last) => last = error,
+            Err(_) => {}
         }
     }
     Err(last)

@@ -1,4 +1,4 @@
-//! Destinations that failed.
+//! Destinations at which exchanges failed.
 ghost use Rattle.std.specs.Prelude.{◌≡◌, ◌<◌, ◌≤◌, ◌+◌, ◌-◌, ◌^◌, min, nat_lt, true, false, Some};
 ghost use Rattle.std.specs.Prelude.{None, IfSome, vec_len, if◌then◌else◌};
 ghost use Rattle.tcp_link.specs.Failing as spec;
@@ -6,11 +6,11 @@ ghost use Rattle.tcp_link.specs.Failing as spec;
 use crate::connecting::HostPort;
 use std::alloc::{AllocError as OutOfMemory, Global};
 
-/// For so many milliseconds a destination is left alone that failed for the first time,
-const FIRST_WAIT: u64 = 10_000;
+/// For so many milliseconds a destination is left alone that is mute for the first time,
+const FIRST_WAIT: u64 = 1_000;
 
 /// and for no more than this.
-const LONGEST_WAIT: u64 = 300_000;
+const LONGEST_WAIT: u64 = 60_000;
 
 /// So many milliseconds pass between two lines on one destination.
 const SILENCE: u64 = 60_000;
@@ -18,12 +18,12 @@ const SILENCE: u64 = 60_000;
 /// At most so many destinations are remembered.
 const MOST_DESTINATIONS: usize = 1_024;
 
-/// A destination that failed.
+/// A destination at which exchanges failed.
 #[derive(Debug, Drop)]
 pub(crate) struct Destination {
     name: String,
     port: u16,
-    /// For how many milliseconds it was left alone last; 0 where it has answered since.
+    /// For how many milliseconds it was left alone last; 0 where it wasn't mute since.
     wait: u64,
     /// Until this moment it is left alone.
     until: u64,
@@ -33,7 +33,7 @@ pub(crate) struct Destination {
     silent_until: u64,
 }
 
-/// How long a destination is left alone that fails, and was left alone so long before.
+/// How long a destination is left alone that is mute, and was left alone so long before.
 fn next_wait(wait: u64) -> u64
     ensures { result ≡ spec.next_wait wait }
 {
@@ -86,7 +86,7 @@ impl Destination {
         self.failed = self.failed.saturating_add(1);
     }
 
-    /// Leaves it alone for a while, since it failed at this moment.
+    /// Leaves it alone for a while, since it was mute at this moment.
     fn leave_alone(&mut self, now: u64)
         ensures { let wait = spec.next_wait self.old.wait in
             self.new ≡ record self.old { wait = wait; until = spec.later now wait } }
@@ -95,7 +95,7 @@ impl Destination {
         self.until = now.saturating_add(self.wait);
     }
 
-    /// It has answered.
+    /// It isn't mute.
     fn welcome(&mut self)
         ensures { self.new ≡ record self.old { wait = 0; until = 0 } }
     {
@@ -138,7 +138,7 @@ impl Destination {
     }
 }
 
-/// The destinations that failed.
+/// The destinations at which exchanges failed.
 #[derive(Debug, Drop)]
 pub(crate) struct Failing {
     list: Vec<Destination>,
@@ -158,7 +158,7 @@ impl Failing {
             && destination.is_left_alone(now))
     }
 
-    /// An exchange with this host succeeded.
+    /// This host isn't mute: it isn't left alone any longer.
     pub(crate) fn welcome(&mut self, host_port: HostPort) {
         for destination in &mut self.list {
             if destination.is_at(host_port) {
@@ -188,7 +188,7 @@ impl Failing {
         oldest
     }
 
-    /// Counts an exchange with this host that wasn't tried. A destination of which nothing more is
+    /// Counts an exchange with this host that failed. A destination of which nothing more is
     /// remembered comes back.
     pub(crate) fn count(&mut self, alloc: Global, host_port: HostPort) -> Option<Destination> {
         let oldest = self.remember(alloc, host_port);
@@ -200,9 +200,16 @@ impl Failing {
         oldest
     }
 
-    /// An exchange with this host was tried, and failed at this moment: it is left alone, unless
+    /// Counts an exchange that this host refused, or broke off: it isn't mute. A destination of
+    /// which nothing more is remembered comes back.
+    pub(crate) fn refuse(&mut self, alloc: Global, host_port: HostPort) -> Option<Destination> {
+        self.welcome(host_port);
+        self.count(alloc, host_port)
+    }
+
+    /// Counts an exchange with this host, which was mute at this moment: it is left alone, unless
     /// it is already. A destination of which nothing more is remembered comes back.
-    pub(crate) fn fail(
+    pub(crate) fn leave_alone(
         &mut self,
         alloc: Global,
         host_port: HostPort,

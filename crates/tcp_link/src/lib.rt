@@ -10,10 +10,11 @@
 //! by then is awaited beside the exchanges that follow. It is for requests whose answers nobody
 //! reads.
 //!
-//! A destination that failed is left alone for ten seconds: each exchange with it fails at once.
-//! Where it fails again after that, it is left alone for twice as long, up to five minutes, until
-//! an exchange with it succeeds. How many exchanges failed is said for each destination, once a
-//! minute at most, on the log.
+//! A destination is mute where it takes no connection and gives no answer in time. A link that sends
+//! what waits leaves a mute destination alone for a second: each exchange with it fails at once.
+//! Where it is mute again after that, it is left alone for twice as long, up to a minute. One that
+//! refuses a connection, or breaks it off, is asked again at the next exchange. How many exchanges
+//! failed is said for each destination, once a minute at most, on the log.
 //!
 //! ```text
 //! let log = Log::new(rt, alloc, LogLevel::Faults)?;

@@ -7,11 +7,11 @@ ghost use Rattle.tcp_link.specs.SendOutcomes.{HasFew};
 ghost use Rattle.m2m_io.specs.declared.fault.LinkFault.TheVariants.{Failed as failed};
 ghost use Rattle.m2m_io.specs.declared.fault.LinkFault.TheVariants.{OutOfMemory as starved};
 
-use crate::answering::{ExchangeConn, MOST_BYTES, Pace, SendOutcome};
+use crate::answering::{ExchangeConn, ExchangeFault, MOST_BYTES, Pace, SendOutcome, fault_of};
 use crate::awaiting::{Awaiting, Fate};
 use crate::connecting::{HostPort, addresses, connected, host_port_of};
 use crate::failing::{Destination, Failing};
-use devices::{Log, millis_now};
+use devices::{Log, millis_now, time_left};
 use m2m_io::{Link, LinkFault};
 use std::alloc::{AllocError, Global};
 use std::io::Eprint;
@@ -24,6 +24,8 @@ use std::time::Clock;
 pub struct TcpLink<R: Clock + Eprint + Copy> {
     log: Log<R>,
     is_patient: bool,
+    /// A destination that is mute isn't asked for a while.
+    leaves_alone: bool,
     failing: Failing,
     awaiting: Awaiting,
     faults: u64,
@@ -34,6 +36,7 @@ impl<R: Clock + Eprint + Copy> Drop for TcpLink<R> {
         let TcpLink {
             log,
             is_patient: _,
+            leaves_alone: _,
             mut failing,
             awaiting: _,
             faults: _,
@@ -61,6 +64,24 @@ fn say_unsaid<R: Clock + Eprint + Copy>(log: &Log<R>, destination: &Destination)
     }
 }
 
+/// An exchange failed. What wasn't said yet of a destination of which nothing more is remembered is
+/// said.
+fn note_failed<R: Clock + Eprint + Copy>(log: &Log<R>, oldest: Option<Destination>) {
+    if let Some(figures) = log.figures() {
+        figures.count_failed();
+    }
+    if let Some(oldest) = oldest {
+        say_unsaid(log, &oldest);
+    }
+}
+
+/// An exchange was done.
+fn note_sent<R: Clock + Eprint + Copy>(log: &Log<R>) {
+    if let Some(figures) = log.figures() {
+        figures.count_sent();
+    }
+}
+
 impl<R: Clock + Eprint + Copy> TcpLink<R> {
     /// Says what failed and may be said at this moment. What the log doesn't take is said later.
     fn say_faults(&mut self, now: u64)
@@ -75,29 +96,40 @@ impl<R: Clock + Eprint + Copy> TcpLink<R> {
             }
         }
         self.failing.tidy(now);
+        if self.leaves_alone
+            && let Some(figures) = self.log.figures()
+        {
+            figures.set_failing(self.failing.destinations().len());
+        }
     }
 
     /// Counts an exchange with a host that isn't tried.
     fn count(&mut self, alloc: Global, host_port: HostPort)
         ensures { self.new.faults ≡ self.old.faults }
     {
-        if let Some(oldest) = self.failing.count(alloc, host_port) {
-            say_unsaid(&self.log, &oldest);
-        }
+        note_failed(&self.log, self.failing.count(alloc, host_port));
     }
 
-    /// An exchange with a host was tried, and failed.
-    fn fail(&mut self, alloc: Global, host_port: HostPort)
+    /// A host refused an exchange, or broke it off.
+    fn refuse(&mut self, alloc: Global, host_port: HostPort)
         ensures { self.new.faults ≡ self.old.faults }
     {
-        let now = millis_now(&self.log.runtime());
-        if let Some(oldest) = self.failing.fail(alloc, host_port, now) {
-            say_unsaid(&self.log, &oldest);
-        }
+        note_failed(&self.log, self.failing.refuse(alloc, host_port));
     }
 
-    /// Looks what has come of the answers that are awaited. One that never came is a failure of the
-    /// moment at which it was given up, however long ago that is.
+    /// A host was mute in an exchange.
+    fn find_mute(&mut self, alloc: Global, host_port: HostPort)
+        ensures { self.new.faults ≡ self.old.faults }
+    {
+        if !self.leaves_alone {
+            return self.count(alloc, host_port);
+        }
+        let now = millis_now(&self.log.runtime());
+        note_failed(&self.log, self.failing.leave_alone(alloc, host_port, now));
+    }
+
+    /// Looks what has come of the answers that are awaited. The host of one that never came was
+    /// mute at the moment at which it was given up, however long ago that is.
     fn settle(&mut self, alloc: Global)
         ensures { self.new.faults ≡ self.old.faults }
     {
@@ -106,12 +138,17 @@ impl<R: Clock + Eprint + Copy> TcpLink<R> {
         for one in self.awaiting.all() {
             match one.fate() {
                 Fate::Open => {}
-                Fate::Answered => self.failing.welcome(one.host_port()),
-                Fate::Failed => {
-                    let at = one.failed_at(now);
-                    if let Some(oldest) = self.failing.fail(alloc, one.host_port(), at) {
-                        say_unsaid(&self.log, &oldest);
-                    }
+                Fate::Answered => {
+                    self.failing.welcome(one.host_port());
+                    note_sent(&self.log);
+                }
+                Fate::Ended => note_failed(&self.log, self.failing.refuse(alloc, one.host_port())),
+                Fate::Mute => {
+                    let at = one.given_up_at(now);
+                    note_failed(
+                        &self.log,
+                        self.failing.leave_alone(alloc, one.host_port(), at),
+                    );
                 }
             }
         }
@@ -119,8 +156,8 @@ impl<R: Clock + Eprint + Copy> TcpLink<R> {
     }
 
     /// A request was sent to a host, and isn't answered yet: its answer is awaited at this
-    /// connection, since this moment. Where there is no room for it, it failed; so did the host,
-    /// unless another answer of it is awaited.
+    /// connection, since this moment. Where there is no room for it, it failed; and the host was
+    /// mute, unless another answer of it is awaited.
     fn wait_for(&mut self, alloc: Global, host_port: HostPort, stream: TcpStream, since: u64)
         ensures { self.new.faults ≡ self.old.faults }
     {
@@ -129,7 +166,7 @@ impl<R: Clock + Eprint + Copy> TcpLink<R> {
         } else if self.awaiting.has(host_port) {
             self.count(alloc, host_port);
         } else {
-            self.fail(alloc, host_port);
+            self.find_mute(alloc, host_port);
         }
     }
 
@@ -147,7 +184,17 @@ impl<R: Clock + Eprint + Copy> TcpLink<R> {
     /// Whether a request to a host isn't sent at this moment: the host is left alone, or so much
     /// is awaited of it that nothing more is asked.
     fn is_passed_over(&self, host_port: HostPort, now: u64) -> bool {
-        self.failing.is_left_alone(host_port, now) || self.awaiting.is_full_at(host_port)
+        let is_left_alone = self.leaves_alone && self.failing.is_left_alone(host_port, now);
+        is_left_alone || self.awaiting.is_full_at(host_port)
+    }
+}
+
+/// Why a host isn't found: it is as good as mute where the look-up took as long as a connection
+/// may.
+fn fault_of_lookup<R: Clock>(rt: &R, begun: u64, pace: Pace) -> ExchangeFault {
+    match time_left(rt, begun, pace.of_a_step()) {
+        Some(_) => ExchangeFault::Refused,
+        None => ExchangeFault::Mute,
     }
 }
 
@@ -158,19 +205,20 @@ fn exchange_at<R>(
     host_port: HostPort,
     pace: Pace,
     request: &[u8],
-) -> Result<SendOutcome, LinkFault>
+) -> Result<SendOutcome, ExchangeFault>
 where
     R: Net<Listener = TcpListener, Stream = TcpStream> + Clock + Copy,
     ensures { IfOk result HasFew }
 {
+    let asked = millis_now(&rt);
     let Ok(found) = addresses(&rt, alloc, host_port) else {
-        return Err(LinkFault::Failed);
+        return Err(fault_of_lookup(&rt, asked, pace));
     };
     let begun = millis_now(&rt);
-    let Ok(stream) = connected(&rt, &found, begun, pace.of_a_step()) else {
-        return Err(LinkFault::Failed);
-    };
-    ExchangeConn::new(rt, alloc, stream, pace, begun).asked(alloc, request)
+    match connected(&rt, &found, begun, pace.of_a_step()) {
+        Ok(stream) => ExchangeConn::new(rt, alloc, stream, pace, begun).asked(alloc, request),
+        Err(error) => Err(fault_of(&error)),
+    }
 }
 
 impl<R> TcpLink<R>
@@ -178,7 +226,7 @@ where
     R: Net<Listener = TcpListener, Stream = TcpStream> + Clock + Eprint + Copy,
 {
     /// A link of which no destination has failed yet, and which says on this log what fails.
-    fn made(log: Log<R>, is_patient: bool) -> Self
+    fn made(log: Log<R>, is_patient: bool, leaves_alone: bool) -> Self
         ensures { result.faults ≡ 0 }
     {
         let failing = Failing::new(log.allocator());
@@ -186,30 +234,42 @@ where
         TcpLink {
             log,
             is_patient,
+            leaves_alone,
             failing,
             awaiting,
             faults: 0,
         }
     }
 
-    /// A link of which no destination has failed yet, and which says on this log what fails.
+    /// A link of which no destination has failed yet, and which says on this log what fails. It
+    /// tries each exchange.
     pub fn new(log: Log<R>) -> Self
         ensures exchanges { ⟦<TcpLink<R> as Link>⟧.exchanges result ≡ None }
         ensures faults { ⟦<TcpLink<R> as Link>⟧.faults result ≡ 0 }
     {
-        TcpLink::made(log, true)
+        TcpLink::made(log, true, false)
     }
 
-    /// Such a link that waits no longer than `SHORT_PATIENCE` in an exchange. Where a request was
-    /// sent and its answer didn't come by then, the exchange is a fault, and the answer is awaited
-    /// beside those that follow. Until it comes a few more requests go to that destination, and
-    /// none of them is waited for; behind these it is passed over. Where it doesn't come within
-    /// `PATIENCE`, the destination failed. One that has begun to answer hasn't.
+    /// Such a link that leaves a mute destination alone for a while: an exchange with it is a fault
+    /// at once.
+    pub fn sparing(log: Log<R>) -> Self
+        ensures exchanges { ⟦<TcpLink<R> as Link>⟧.exchanges result ≡ None }
+        ensures faults { ⟦<TcpLink<R> as Link>⟧.faults result ≡ 0 }
+    {
+        TcpLink::made(log, true, true)
+    }
+
+    /// A link that leaves a mute destination alone, and waits no longer than `SHORT_PATIENCE` in an
+    /// exchange. Where a request was sent and its answer didn't come by then, the exchange is a
+    /// fault, and the answer is awaited beside those that follow. Until it comes a few more
+    /// requests go to that destination, and none of them is waited for; behind these it is passed
+    /// over. Where it doesn't come within `PATIENCE`, the destination was mute. One that has begun
+    /// to answer wasn't.
     pub fn impatient(log: Log<R>) -> Self
         ensures exchanges { ⟦<TcpLink<R> as Link>⟧.exchanges result ≡ None }
         ensures faults { ⟦<TcpLink<R> as Link>⟧.faults result ≡ 0 }
     {
-        TcpLink::made(log, false)
+        TcpLink::made(log, false, true)
     }
 
     /// One exchange with a host, unless that is passed over.
@@ -231,21 +291,27 @@ where
         match exchange_at(rt, alloc, host_port, self.pace(host_port), request) {
             Ok(SendOutcome::Answer(answer)) => {
                 self.failing.welcome(host_port);
+                note_sent(&self.log);
                 Ok(answer)
             }
             Ok(SendOutcome::Part) => {
                 self.failing.welcome(host_port);
+                note_sent(&self.log);
                 Err(LinkFault::Failed)
             }
             Ok(SendOutcome::Nothing(stream)) => {
                 self.wait_for(alloc, host_port, stream, now);
                 Err(LinkFault::Failed)
             }
-            Err(LinkFault::Failed) => {
-                self.fail(alloc, host_port);
+            Err(ExchangeFault::Mute) => {
+                self.find_mute(alloc, host_port);
                 Err(LinkFault::Failed)
             }
-            Err(fault) => Err(fault),
+            Err(ExchangeFault::Refused) => {
+                self.refuse(alloc, host_port);
+                Err(LinkFault::Failed)
+            }
+            Err(ExchangeFault::OutOfMemory) => Err(LinkFault::OutOfMemory),
         }
     }
 
