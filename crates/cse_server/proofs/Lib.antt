@@ -1,5 +1,3 @@
-pub mod LinkLemmas
-pub mod RepliesLemmas
 pub mod TalkLemmas
 pub mod WayLemmas
 pub mod NextLemmas
@@ -10,5 +8,3 @@ pub mod SendingLemmas
 pub mod TurnLemmas
 pub mod SideLemmas
 pub mod MostLemmas
-pub mod ValuesSent
-pub mod Sent

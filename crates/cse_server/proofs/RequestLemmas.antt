@@ -1,7 +1,7 @@
 -- The request that a frame binds to.
-use Rattle.std.proofs.Common.{◌≡◌, [], ◌∷◌, Option, Some, None, Result, Ok, Err, ap, subst}
+use Rattle.std.proofs.Common.{◌≡◌, ℕ, List, [], ◌∷◌, Option, Some, None, Result, Ok, Err, refl, ap, subst}
 use Rattle.std.specs.List.{cons_option}
-use Rattle.std.specs.Option.{unwrap_or}
+use Rattle.std.specs.Option.{option_map, unwrap_or}
 use Rattle.std.specs.Result.{result_ok}
 use Rattle.primitive_json.specs.declared.reply.ReplyParts.{ReplyParts}
 use Rattle.primitive_json.specs.declared.request.RequestParts.{RequestParts}
@@ -22,9 +22,19 @@ bound_ok (Err fault) request e = absurd (subst IsNone e tt)
 pub binds : (frame : Frame) (request : RequestParts) → request_in frame ≡ Some request → binding frame ≡ Ok request
 binds frame request e = bound_ok (binding frame) request e
 
+-- a value is found where it is one that is known
+pub no_id : {B : Type 0} (now : B → List ℕ) (found : Option B) (id : List ℕ) → option_map now found ≡ Some id
+    → ((b : B) → found ≡ Some b → ⊥) → ⊥
+no_id now None id some none = cc
+no_id now (Some b) id some none = none b refl
+
 -- it is the one request of the frame
 pub requests_in-one : (frame : Frame) (request : RequestParts) → request_in frame ≡ Some request → requests_in (frame ∷ []) ≡ request ∷ []
 requests_in-one frame request e = ap (λ (o : Option RequestParts). cons_option o []) e
+
+-- a frame that binds to none has no request
+pub requests_in-none : (frame : Frame) → request_in frame ≡ None → requests_in (frame ∷ []) ≡ []
+requests_in-none frame e = ap (λ (o : Option RequestParts). cons_option o []) e
 
 -- and the first of the replies answers the frame
 pub reply_for-one : (frame : Frame) (request : RequestParts) (reply : ReplyParts) → request_in frame ≡ Some request

@@ -19,7 +19,7 @@ use Rattle.cse_machine.specs.declared.event.Outcome.{Outcome}
 use Rattle.cse_machine.specs.declared.event.Outcome.TheVariants.{Item}
 use Rattle.cse_server.specs.Outside.{Carries, LinkTold, link_told}
 use Rattle.cse_server.specs.Sending.{GivesItem, SendsEach, SendsItems, TakesItem, carried_for, carried_to, item_given, most_items, none_left}
-use Rattle.cse_server.proofs.LinkLemmas.{Carries-append, Tells-append, Tells-nil, carries_nothing}
+use Rattle.desk_replies.proofs.LinkLemmas.{Carries-append, Tells-append, Tells-nil, carries_nothing}
 
 -- ---- what is carried
 

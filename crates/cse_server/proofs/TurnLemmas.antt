@@ -1,12 +1,15 @@
 -- The turn of one frame, and what stands next on a connection.
-use Rattle.std.proofs.Common.{◌≡◌, ℕ, ◌+◌, ◌<◌, Bool, true, false, List, [], ◌∷◌, ◌++◌, length, Option, Some, None, IfSome, IsTrue, MatchOption, Result, Ok, inl, inr, refl, sym, ap, subst, ◌∙◌, arith, append-nil}
-use Rattle.std.proofs.lemmas.Bool.{false≢true, true≢false}
+use Rattle.std.proofs.Common.{◌≡◌, ℕ, ◌+◌, ◌<◌, Bool, true, false, List, [], ◌∷◌, ◌++◌, length, Option, Some, None, IfOk, IfSome, IsTrue, MatchOption, Result, Ok, Err, inl, inr, refl, sym, ap, subst, ◌∙◌, arith, append-nil}
+use Rattle.std.proofs.lemmas.Bool.{cases_Bool, false≢true, true≢false}
 use Rattle.std.specs.Io.KnownBytes.{IsAtEnd}
-use Rattle.cse_server.specs.Outside.{Carries, LinkTold, Outside, Puts, PutsPart, SinkTold, outside}
-use Rattle.m2m_io.specs.Told.{Tells}
+use Rattle.cse_server.specs.Outside.{LinkTold, Outside, Puts, PutsPart, SinkTold, outside}
 use Rattle.primitive_json.specs.declared.reply.ReplyParts.{ReplyParts}
 use Rattle.turn_desk.specs.Entries.{Marked}
-use Rattle.turn_desk.proofs.GrowthLemmas.{AsksAll-nothing}
+use Rattle.desk_replies.specs.Answering.{Answers}
+use Rattle.desk_replies.specs.Asking.{Asked, HasAsked, nothing_asked}
+use Rattle.desk_replies.specs.Rule.{IsAnswered, ReplyRule}
+use Rattle.desk_replies.proofs.AskingLemmas.{answered_as, answered_none, answered_one, begun_one, has_asked_nothing, none_begun}
+use Rattle.primitive_json.specs.declared.request.RequestParts.{RequestParts}
 use Rattle.http_frames.specs.declared.frame.Frame.{Frame}
 use Rattle.http_frames.specs.declared.frame.Side.TheVariants.{Request}
 use Rattle.http_frames.specs.Stream.{BeginsWithFrames, HasNoFrame}
@@ -19,11 +22,12 @@ use Rattle.cse_machine.specs.declared.event.Outcome.{Outcome}
 use Rattle.cse_server.specs.declared.connection.Ended.{Ended}
 use Rattle.cse_server.specs.declared.connection.Ended.TheVariants.{Closed, NoFrame, ReadFault, WriteFault, Memory}
 use Rattle.cse_server.specs.Closing.{closes}
-use Rattle.cse_server.specs.Talk.{reply_texts, last_reply, talk, talk_before_last, talk_length, some_closes, ends_at_close}
-use Rattle.cse_server.specs.Connection.{ReadsLittle, RefusesRightly, EndsRightly, PutsCut, Says, AsksFrames, ServesFrom}
-use Rattle.cse_server.specs.Way.{AnswersFrame, Leads, Goes, Hears, Refuses, SaysTurn, end_of_put}
+use Rattle.cse_server.specs.Talk.{request_in, requests_in, malformed, reply_for, reply_texts, last_reply, talk, talk_before_last, talk_length, some_closes, ends_at_close}
+use Rattle.cse_server.specs.Connection.{ReadsLittle, RefusesRightly, EndsRightly, PutsCut, PutsOneLess, Says, ServesFrom}
+use Rattle.cse_server.specs.Way.{AnswersFrame, AsksFrames, Leads, Goes, Hears, Refuses, SaysTurn, end_of_put}
 use Rattle.cse_server.proofs.NextLemmas.{kept_leads, reads_little, ended_empty, refused_rightly, reply_texts-one, some_closes-one}
-use Rattle.cse_server.proofs.LinkLemmas.{Tells-nil, carries_nothing}
+use Rattle.http_binding.specs.Binding.{echo_of}
+use Rattle.cse_server.proofs.RequestLemmas.{reply_for-one, requests_in-none, requests_in-one}
 use Rattle.cse_server.proofs.PutLemmas.{puts_none, puts_nothing, cut_first}
 use Rattle.cse_server.proofs.TalkLemmas.{nothing_before}
 
@@ -61,6 +65,13 @@ unheard_says place frame ended before text count old new memory none zero said =
     let kept : new ≡ old = subst (λ (e : Ended). SaysTurn place frame (Some e) text old new) memory said in
     subst (λ (e : Ended). Says e before (text ++ []) count old new) (sym memory)
     (inl (rw (none, zero) (puts_nothing old new kept)))
+
+-- where memory ran out in what was asked for the frame: its reply isn't begun
+one_unsaid : (place : ℕ) (frame : Frame) (ended : Ended) (before text : List ℕ) (count : ℕ) (old new : SinkTold) → ended ≡ Memory → before ≡ [] → count ≡ 1
+    → SaysTurn place frame (Some ended) text old new → PutsOneLess before count old new
+one_unsaid place frame ended before text count old new memory none one said =
+    let kept : new ≡ old = subst (λ (e : Ended). SaysTurn place frame (Some e) text old new) memory said in
+    record { less = 0; is_less = sym one; put = rw none (puts_nothing old new kept) }
 
 turn_ends : (place : ℕ) (frame : Frame) (ended : Ended) (heard : List Frame) (old new : SinkTold) (text rest : List ℕ)
     (src : Option (List ℕ)) → heard ≡ frame ∷ [] → IfSome src (ReadsLittle rest)
@@ -100,51 +111,119 @@ starved_stream (Some bytes) src place ended heard same memory little = (
   subst (λ (e : Ended). EndsRightly place e false heard bytes src) (sym memory) little,
 )
 
-module _ {S : Type 0} (grown : S → List (Marked Event Outcome) → S → Type 0) where
-  -- the reply to the frame was put, or some of it; or it wasn't begun
-  pub turned : {E : Type 0} (place : ℕ) (before after : S) (old new : Outside) (frame : Frame) (r : ReplyParts) (ended : Option Ended)
-      → Hears {E = E} grown before after old.readings new.readings old.link new.link frame (Ok r)
-      → SaysTurn place frame ended (reply_text r (closes place frame)) old.out new.out
-      → AnswersFrame place grown before after old new frame ended
-  turned place before after old new frame r ended h said = record {
+module _ {S : Type 0} (rule : ReplyRule) (grown : S → List (Marked Event Outcome) → S → Type 0) where
+  -- a frame that binds was asked
+  pub heard_one : {E : Type 0} (before after : S) (given now : Option (List ℕ)) (told more : LinkTold) (frame : Frame) (request : RequestParts)
+      → request_in frame ≡ Some request → (result : Result ReplyParts E) → Answers rule grown before after given now told more request result
+      → Hears rule grown before after given now told more frame result
+  heard_one before after given now told more frame request some (Ok reply) by = record {
     heard = frame ∷ [];
     either = inl refl;
-    asks = h.asks;
-    said = subst (λ (text : List ℕ). SaysTurn place frame ended text old.out new.out)
-        (ap (λ (v : ReplyParts). reply_text v (closes place frame)) h.replied ∙ sym (reply_texts-one frame place h.asks.replies)) said;
+    asks = record {
+      asked = by.asked;
+      asks = by.asks;
+      answers = answered_as rule (request ∷ []) (requests_in (frame ∷ [])) by.asked
+          (answered_one rule request by.asked by.answers.0 by.answers.1 by.answers.2 by.answers.3) (sym (requests_in-one frame request some));
+    };
+    replied = (refl, refl, by.answers.4 ∙ sym (reply_for-one frame request _ some));
   }
+  heard_one before after given now told more frame request some (Err starved) by = elim by.answers [
+    | inl none ↦ record {
+      heard = [];
+      either = inr refl;
+      asks = record {
+        asked = by.asked;
+        asks = by.asks;
+        answers = subst (λ (v : Asked). IsAnswered rule [] v) (sym none) (answered_none rule);
+      };
+      replied = tt;
+    }
+    | inr front ↦ record {
+      heard = frame ∷ [];
+      either = inl refl;
+      asks = record {
+        asked = by.asked;
+        asks = by.asks;
+        answers = answered_as rule (request ∷ []) (requests_in (frame ∷ [])) by.asked
+            (begun_one rule request by.asked front.0 front.1 front.2 front.3) (sym (requests_in-one frame request some));
+      };
+      replied = tt;
+    }
+  ]
+
+  -- the reply to the frame was put, or some of it; or it wasn't begun
+  pub turned : {E : Type 0} (place : ℕ) (before after : S) (old new : Outside) (frame : Frame) (r : ReplyParts) (ended : Option Ended)
+      → Hears {E = E} rule grown before after old.readings new.readings old.link new.link frame (Ok r)
+      → SaysTurn place frame ended (reply_text r (closes place frame)) old.out new.out
+      → AnswersFrame place rule grown before after old new frame ended
+  turned place before after old new frame r ended h said =
+      let replies = h.asks.answers.replies in
+      let one : reply_texts h.heard place replies ≡ reply_texts (frame ∷ []) place replies = ap (λ (fs : List Frame). reply_texts fs place replies) h.replied.0 in record {
+        heard = h.heard;
+        either = inl h.replied.0;
+        asks = h.asks;
+        cut = λ begun. absurd (true≢false (sym h.replied.1 ∙ begun));
+        said = subst (λ (text : List ℕ). SaysTurn place frame ended text old.out new.out)
+            (ap (λ (v : ReplyParts). reply_text v (closes place frame)) h.replied.2 ∙ sym (reply_texts-one frame place replies) ∙ sym one) said;
+      }
 
   -- memory ran out before there was a reply
   pub starved_turn : {E : Type 0} (place : ℕ) (before after : S) (old new : Outside) (frame : Frame) (r : Result ReplyParts E)
-      → Hears grown before after old.readings new.readings old.link new.link frame r
-      → new.out ≡ old.out → AnswersFrame place grown before after old new frame (Some Memory)
+      → Hears rule grown before after old.readings new.readings old.link new.link frame r
+      → new.out ≡ old.out → AnswersFrame place rule grown before after old new frame (Some Memory)
   starved_turn place before after old new frame r h same = record {
-    heard = frame ∷ [];
-    either = inl refl;
+    heard = h.heard;
+    either = elim h.either [
+      | inl one ↦ inl one
+      | inr none ↦ inr (none, refl)
+    ];
     asks = h.asks;
+    cut = λ begun. refl;
     said = same;
   }
 
   module _ (nothing : (seat : S) → grown seat [] seat) where
+    -- nothing was put to the seat
+    asked_none : (seat : S) (given now : Option (List ℕ)) (told more : LinkTold) → now ≡ given → more ≡ told → HasAsked grown seat seat given now told more nothing_asked
+    asked_none seat given now told more readings link =
+        subst (λ (v : Option (List ℕ)). HasAsked grown seat seat given v told more nothing_asked) (sym readings)
+        (subst (λ (v : LinkTold). HasAsked grown seat seat given given told v nothing_asked) (sym link) (has_asked_nothing grown nothing seat given told))
+
     -- no frame was put to the seat
-    abbrev asks_none : (seat : S) (given now : Option (List ℕ)) (told more : LinkTold) → now ≡ given → more ≡ told → AsksFrames grown seat seat given now told more []
+    abbrev asks_none : (seat : S) (given now : Option (List ℕ)) (told more : LinkTold) → now ≡ given → more ≡ told → AsksFrames rule grown seat seat given now told more []
     asks_none seat given now told more readings link = record {
-      readings = [];
-      outcomes = [];
-      replies = [];
-      carried = [];
-      asked = AsksAll-nothing grown nothing seat;
-      clock = subst (λ (v : Option (List ℕ)). Tells (λ list. list ++ []) given v) (sym readings) (Tells-nil given);
-      gives = refl;
-      link = subst (λ (v : LinkTold). Carries [] told v) (sym link) (carries_nothing told);
+      asked = nothing_asked;
+      asks = asked_none seat given now told more readings link;
+      answers = answered_none rule;
     }
 
+    -- a frame that doesn't bind was heard, and refused
+    pub heard_none : {E : Type 0} (seat : S) (given : Option (List ℕ)) (told : LinkTold) (frame : Frame) → request_in frame ≡ None
+        → (result : Result ReplyParts E) → IfOk result (λ r. r ≡ malformed (echo_of frame))
+        → Hears rule grown seat seat given given told told frame result
+    heard_none {E} seat given told frame none result refused = record {
+      heard = frame ∷ [];
+      either = inl refl;
+      asks = record {
+        asked = nothing_asked;
+        asks = has_asked_nothing grown nothing seat given told;
+        answers = answered_as rule [] (requests_in (frame ∷ [])) nothing_asked (answered_none rule) (sym (requests_in-none frame none));
+      };
+      replied = replied result refused;
+    }
+      where
+        replied : (result : Result ReplyParts E) → IfOk result (λ r. r ≡ malformed (echo_of frame))
+            → IfOk result (λ r. (frame ∷ [] ≡ frame ∷ []) × (true ≡ true) × (r ≡ reply_for frame (request_in frame) []))
+        replied (Ok reply) refused = (refl, refl, refused ∙ sym (ap (λ (o : Option RequestParts). reply_for frame o []) none))
+        replied (Err starved) refused = tt
+
     -- memory ran out before the frame was heard
-    pub unheard_turn : (place : ℕ) (seat : S) (old : Outside) (frame : Frame) → AnswersFrame place grown seat seat old old frame (Some Memory)
+    pub unheard_turn : (place : ℕ) (seat : S) (old : Outside) (frame : Frame) → AnswersFrame place rule grown seat seat old old frame (Some Memory)
     unheard_turn place seat old frame = record {
       heard = [];
       either = inr (refl, refl);
       asks = asks_none seat old.readings old.readings old.link old.link refl refl;
+      cut = λ begun. refl;
       said = refl;
     }
 
@@ -153,15 +232,20 @@ module _ {S : Type 0} (grown : S → List (Marked Event Outcome) → S → Type 
         → new.readings ≡ old.readings → new.link ≡ old.link
         → IfSome old.left (λ bytes. RefusesRightly place refused [] bytes × EndsRightly place ended refused [] bytes new.left)
         → Says ended [] (talk place [] refused []) (talk_length [] refused) old.out new.out
-        → ServesFrom place grown seat seat old new ended
+        → ServesFrom place rule grown seat seat old new ended
     serves_none place seat old new refused ended readings link stream said = record {
-      heard = [];
-      refused = refused;
-      asks = asks_none seat old.readings new.readings old.link new.link readings link;
-      up_to = refl;
-      stream = here old.left stream;
-      said = subst (λ (before : List ℕ). Says ended before (talk place [] refused []) (talk_length [] refused) old.out new.out)
-          (sym (nothing_before place refused)) said;
+      asked = nothing_asked;
+      asks = asked_none seat old.readings new.readings old.link new.link readings link;
+      talks = record {
+        heard = [];
+        refused = refused;
+        answers = answered_none rule;
+        up_to = refl;
+        stream = here old.left stream;
+        says = subst (λ (before : List ℕ). Says ended before (talk place [] refused []) (talk_length [] refused) old.out new.out)
+            (sym (nothing_before place refused)) said;
+        cut = λ begun. absurd (true≢false begun);
+      };
     }
       where
         here : (left : Option (List ℕ)) → IfSome left (λ bytes. RefusesRightly place refused [] bytes × EndsRightly place ended refused [] bytes new.left)
@@ -172,7 +256,7 @@ module _ {S : Type 0} (grown : S → List (Marked Event Outcome) → S → Type 
     -- the stream ended behind a frame
     pub serves_end : (place : ℕ) (seat : S) (left rest : Option (List ℕ)) (held now : List ℕ) (old : SinkTold) (given : Option (List ℕ)) (link : LinkTold)
         → Reads left rest held now → length now < most_held Request → now ≡ [] → IsAtEnd rest
-        → ServesFrom place grown seat seat (outside (stream_of held left) old given link) (outside rest old given link) Closed
+        → ServesFrom place rule grown seat seat (outside (stream_of held left) old given link) (outside rest old given link) Closed
     serves_end place seat left rest held now old given link reads few none end =
         serves_none place seat (outside (stream_of held left) old given link) (outside rest old given link) false Closed refl refl (all left reads) (puts_none old)
       where
@@ -185,7 +269,7 @@ module _ {S : Type 0} (grown : S → List (Marked Event Outcome) → S → Type 
     -- reading failed
     pub serves_fault : (place : ℕ) (seat : S) (left rest : Option (List ℕ)) (held now : List ℕ) (old : SinkTold) (given : Option (List ℕ)) (link : LinkTold)
         → Reads left rest held now → length now < most_held Request → HasNoFrame Request now
-        → ServesFrom place grown seat seat (outside (stream_of held left) old given link) (outside rest old given link) ReadFault
+        → ServesFrom place rule grown seat seat (outside (stream_of held left) old given link) (outside rest old given link) ReadFault
     serves_fault place seat left rest held now old given link reads few none =
         serves_none place seat (outside (stream_of held left) old given link) (outside rest old given link) false ReadFault refl refl (all left rest reads) (puts_none old)
       where
@@ -198,7 +282,7 @@ module _ {S : Type 0} (grown : S → List (Marked Event Outcome) → S → Type 
     -- memory ran out
     pub serves_starved : (place : ℕ) (seat : S) (left rest : Option (List ℕ)) (old : SinkTold) (given : Option (List ℕ)) (link : LinkTold)
         → IfSome left (λ bytes. IfSome rest (ReadsLittle bytes))
-        → ServesFrom place grown seat seat (outside left old given link) (outside rest old given link) Memory
+        → ServesFrom place rule grown seat seat (outside left old given link) (outside rest old given link) Memory
     serves_starved place seat left rest old given link little =
         serves_none place seat (outside left old given link) (outside rest old given link) false Memory refl refl (all left little)
         (inl (puts_none old))
@@ -210,7 +294,7 @@ module _ {S : Type 0} (grown : S → List (Marked Event Outcome) → S → Type 
     -- no frame can stand
     pub serves_refused : (place : ℕ) (seat : S) (left rest : Option (List ℕ)) (held now : List ℕ) (old new : SinkTold) (given : Option (List ℕ)) (link : LinkTold) (ended : Ended)
         → Reads left rest held now → length now < most_held Request → HoldsNoFrame Request now rest → Refuses old new ended
-        → ServesFrom place grown seat seat (outside (stream_of held left) old given link) (outside rest new given link) ended
+        → ServesFrom place rule grown seat seat (outside (stream_of held left) old given link) (outside rest new given link) ended
     serves_refused place seat left rest held now old new given link ended reads few holds put =
         serves_none place seat (outside (stream_of held left) old given link) (outside rest new given link) true ended refl refl
         (all left reads ended put) (says ended put)
@@ -238,16 +322,20 @@ module _ {S : Type 0} (grown : S → List (Marked Event Outcome) → S → Type 
 
   -- the frame was answered, and the connection goes on
   goes_on : (place : ℕ) (before after : S) (left rest : Option (List ℕ)) (old new : Outside) (frame : Frame)
-      → Leads left (frame ∷ []) rest → AnswersFrame place grown before after old new frame None
-      → Goes place (place + 1) grown before after (outside left old.out old.readings old.link)
+      → Leads left (frame ∷ []) rest → AnswersFrame place rule grown before after old new frame None
+      → Goes place (place + 1) rule grown before after (outside left old.out old.readings old.link)
       (outside rest new.out new.readings new.link)
   goes_on place before after left rest old new frame leads t = record {
     heard = t.heard;
     asks = t.asks;
+    all = elim (cases_Bool t.asks.answers.is_whole) [
+      | inl whole ↦ whole
+      | inr begun ↦ absurd (none_some (t.cut begun))
+    ];
     places = ap (λ (fs : List Frame). place + length fs) e;
     stays_on = rw e (some_closes-one frame place false t.said.0);
     stream = subst (λ (fs : List Frame). Leads left fs rest) (sym e) leads;
-    said = subst (λ (n : ℕ). Puts (reply_texts t.heard place t.asks.replies) n old.out new.out) (sym (ap (λ (fs : List Frame). length fs) e)) t.said.1;
+    said = subst (λ (n : ℕ). Puts (reply_texts t.heard place t.asks.answers.replies) n old.out new.out) (sym (ap (λ (fs : List Frame). length fs) e)) t.said.1;
   }
     where
       e : t.heard ≡ frame ∷ []
@@ -256,39 +344,53 @@ module _ {S : Type 0} (grown : S → List (Marked Event Outcome) → S → Type 
   -- the frame was answered, and the connection ended
   pub serves_turn : (place : ℕ) (before after : S) (left src : Option (List ℕ)) (held : List ℕ) (old new : Outside) (frame : Frame) (ended : Ended)
       → length held < most_held Request → IfSome left (λ bytes. IfSome src (ReadsLittle bytes))
-      → Leads left (frame ∷ []) (stream_of held src) → AnswersFrame place grown before after old new frame (Some ended)
-      → ServesFrom place grown before after (outside left old.out old.readings old.link)
+      → Leads left (frame ∷ []) (stream_of held src) → AnswersFrame place rule grown before after old new frame (Some ended)
+      → ServesFrom place rule grown before after (outside left old.out old.readings old.link)
       (outside src new.out new.readings new.link) ended
-  serves_turn place before after left src held old new frame ended few little leads t = record {
-    heard = t.heard;
-    refused = false;
-    asks = t.asks;
-    up_to = elim t.either [
-      | inl same ↦ subst (λ (fs : List Frame). IsTrue (ends_at_close fs place)) (sym same) refl
-      | inr starved ↦ subst (λ (fs : List Frame). IsTrue (ends_at_close fs place)) (sym starved.0) refl
-    ];
-    stream = elim t.either [
-      | inl same ↦ turn_stream left src held place frame ended t.heard old.out new.out (reply_texts t.heard place t.asks.replies) same few leads t.said
-      | inr starved ↦ starved_stream left src place ended t.heard starved.0 (some_same ended starved.1) little
-    ];
-    said = elim t.either [
-      | inl same ↦
-          answered_says place frame ended _ (reply_texts t.heard place t.asks.replies) (talk_length t.heard false) old.out new.out
-          (ap (λ (fs : List Frame). talk_before_last place fs false t.asks.replies) same) (ap (λ (fs : List Frame). talk_length fs false) same) t.said
-      | inr starved ↦
-          unheard_says place frame ended _ (reply_texts t.heard place t.asks.replies) (talk_length t.heard false) old.out new.out (some_same ended starved.1)
-          (ap (λ (fs : List Frame). reply_texts fs place t.asks.replies) starved.0) (ap (λ (fs : List Frame). talk_length fs false) starved.0) t.said
-    ];
-  }
+  serves_turn place before after left src held old new frame ended few little leads t =
+      let replies = t.asks.answers.replies in record {
+        asked = t.asks.asked;
+        asks = t.asks.asks;
+        talks = record {
+          heard = t.heard;
+          refused = false;
+          answers = t.asks.answers;
+          up_to = elim t.either [
+            | inl same ↦ subst (λ (fs : List Frame). IsTrue (ends_at_close fs place)) (sym same) refl
+            | inr starved ↦ subst (λ (fs : List Frame). IsTrue (ends_at_close fs place)) (sym starved.0) refl
+          ];
+          stream = elim t.either [
+            | inl same ↦ turn_stream left src held place frame ended t.heard old.out new.out (reply_texts t.heard place replies) same few leads t.said
+            | inr starved ↦ starved_stream left src place ended t.heard starved.0 (some_same ended starved.1) little
+          ];
+          says = elim t.either [
+            | inl same ↦
+                answered_says place frame ended _ (reply_texts t.heard place replies) (talk_length t.heard false) old.out new.out
+                (ap (λ (fs : List Frame). talk_before_last place fs false replies) same) (ap (λ (fs : List Frame). talk_length fs false) same) t.said
+            | inr starved ↦
+                unheard_says place frame ended _ (reply_texts t.heard place replies) (talk_length t.heard false) old.out new.out (some_same ended starved.1)
+                (ap (λ (fs : List Frame). reply_texts fs place replies) starved.0) (ap (λ (fs : List Frame). talk_length fs false) starved.0) t.said
+          ];
+          cut = λ begun. elim t.either [
+            | inl same ↦
+                let memory = some_same ended (t.cut begun) in (
+                  memory,
+                  one_unsaid place frame ended _ (reply_texts t.heard place replies) (talk_length t.heard false) old.out new.out memory
+                      (ap (λ (fs : List Frame). talk_before_last place fs false replies) same) (ap (λ (fs : List Frame). talk_length fs false) same) t.said,
+                )
+            | inr starved ↦ absurd (none_begun rule (requests_in t.heard) t.asks.asked t.asks.answers (ap (λ (fs : List Frame). requests_in fs) starved.0) begun)
+          ];
+        };
+      }
 
   -- a frame stood next, and was answered
   pub message_next : (place : ℕ) (before after : S) (left src : Option (List ℕ)) (held : List ℕ) (old new : Outside) (frame : Frame) (r : Option Ended) (P : Type 0) → P
       → length held < most_held Request → IfSome left (λ bytes. IfSome src (ReadsLittle bytes))
-      → Leads left (frame ∷ []) (stream_of held src) → AnswersFrame place grown before after old new frame r
+      → Leads left (frame ∷ []) (stream_of held src) → AnswersFrame place rule grown before after old new frame r
       → MatchOption r
-      (P × Goes place (place + 1) grown before after (outside left old.out old.readings old.link)
+      (P × Goes place (place + 1) rule grown before after (outside left old.out old.readings old.link)
       (outside (stream_of held src) new.out new.readings new.link))
-      (ServesFrom place grown before after (outside left old.out old.readings old.link)
+      (ServesFrom place rule grown before after (outside left old.out old.readings old.link)
       (outside src new.out new.readings new.link))
   message_next place before after left src held old new frame None P p few little leads t =
       (p, goes_on place before after left (stream_of held src) old new frame leads t)
@@ -298,10 +400,11 @@ module _ {S : Type 0} (grown : S → List (Marked Event Outcome) → S → Type 
   module _ (nothing : (seat : S) → grown seat [] seat) where
     -- no frame stood yet
     pub goes_none : (place : ℕ) (seat : S) (left : Option (List ℕ)) (held : List ℕ) (old : SinkTold) (given : Option (List ℕ)) (link : LinkTold) → held ≡ []
-        → Goes place place grown seat seat (outside left old given link) (outside (stream_of held left) old given link)
+        → Goes place place rule grown seat seat (outside left old given link) (outside (stream_of held left) old given link)
     goes_none place seat left held old given link none = record {
       heard = [];
       asks = asks_none nothing seat given given link link refl refl;
+      all = refl;
       places = omega arith;
       stays_on = refl;
       stream = rw none (start left);

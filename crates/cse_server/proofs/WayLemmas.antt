@@ -1,28 +1,23 @@
 -- A connection on its way, joined with what comes next.
-use Rattle.std.proofs.Common.{◌≡◌, ℕ, ◌+◌, Bool, false, List, [], ◌∷◌, ◌++◌, length, map, Option, Some, None, IfSome, inl, inr, sym, ap, subst, ◌∙◌, arith, length-append}
+use Rattle.std.proofs.Common.{◌≡◌, ℕ, ◌+◌, Bool, true, false, List, [], ◌∷◌, ◌++◌, length, map, Option, Some, None, IfSome, inl, inr, sym, ap, subst, ◌∙◌, arith, length-append}
 use Rattle.std.proofs.lemmas.List.{map-append}
-use Rattle.m2m_io.specs.Link.{Carrying}
 use Rattle.cse_server.specs.Outside.{LinkTold, Outside, Puts, SinkTold}
-use Rattle.primitive_json.specs.declared.reply.ReplyParts.{ReplyParts}
 use Rattle.primitive_json.specs.declared.request.RequestParts.{RequestParts}
 use Rattle.turn_desk.specs.Entries.{Marked}
-use Rattle.turn_desk.specs.Growth.{AsksAll}
-use Rattle.turn_desk.proofs.GrowthLemmas.{AsksAll-append}
+use Rattle.desk_replies.specs.Asking.{Asked, asked_on}
+use Rattle.desk_replies.specs.Rule.{ReplyRule}
+use Rattle.desk_replies.proofs.AskingLemmas.{answered_as, answered_length, answered_on, has_asked_on}
 use Rattle.http_frames.specs.declared.frame.Frame.{Frame}
 use Rattle.cse_machine.specs.declared.event.Event.{Event}
-use Rattle.cse_machine.specs.declared.event.Event.TheVariants.{Ask}
 use Rattle.cse_machine.specs.declared.event.Outcome.{Outcome}
 use Rattle.cse_server.specs.declared.connection.Ended.{Ended}
 use Rattle.cse_server.specs.declared.connection.Ended.TheVariants.{Closed, NoFrame, ReadFault, WriteFault, Memory}
 use Rattle.cse_server.specs.Talk.{requests_in, reply_texts, talk, talk_before_last, talk_length, some_closes}
 use Rattle.http_frames.specs.declared.frame.Side.TheVariants.{Request}
 use Rattle.http_frames.specs.Stream.{BeginsWithFrames}
-use Rattle.cse_server.specs.Connection.{RefusesRightly, EndsRightly, Says, AsksFrames, ServesFrom}
-use Rattle.cse_server.specs.Replies.{GivesReplies}
-use Rattle.cse_server.specs.Way.{Leads, Goes}
+use Rattle.cse_server.specs.Connection.{AnswersFrames, EndsRightly, PutsOneLess, RefusesRightly, Says, ServesFrom}
+use Rattle.cse_server.specs.Way.{AsksFrames, Goes, Leads}
 use Rattle.cse_server.proofs.TalkLemmas.{some_closes-append, ends_at_close-append, requests_in-append, reply_texts-append, talk-append, talk_length-append, before_last-joined, before_last-whole}
-use Rattle.cse_server.proofs.RepliesLemmas.{gives-append, gives-length}
-use Rattle.cse_server.proofs.LinkLemmas.{Carries-append, Tells-append}
 use Rattle.cse_server.proofs.PutLemmas.{Puts-append, cut_behind, less_behind}
 
 -- ---- streams
@@ -79,74 +74,78 @@ module _ (old mid new : SinkTold) (replied before both more last : List ℕ) (m 
     | inr less ↦ inr (less_behind old mid new replied before both m n (whole less.less less.is_less) first less)
   ]
 
--- ---- replies
-
--- the replies to frames that are joined
-gave-append : (xs ys : List Frame) (os os' : List Outcome) (ps ps' : List ReplyParts) (es es' : List Carrying)
-    → GivesReplies (requests_in xs) os ps es → GivesReplies (requests_in ys) os' ps' es'
-    → GivesReplies (requests_in (xs ++ ys)) (os ++ os') (ps ++ ps') (es ++ es')
-gave-append xs ys os os' ps ps' es es' first then =
-    subst (λ (v : List RequestParts). GivesReplies v (os ++ os') (ps ++ ps') (es ++ es')) (sym (requests_in-append xs ys))
-    (gives-append (requests_in xs) (requests_in ys) os os' ps ps' es es' first then)
-
 -- ---- questions
 
-module _ {S : Type 0} (grown : S → List (Marked Event Outcome) → S → Type 0) (on : (before between after : S) (more then : List (Marked Event Outcome)) → grown before more between → grown between then after → grown before (more ++ then) after) where
-  -- the questions of frames that are joined
-  asked-append : (before between after : S) (rs rs' : List ℕ) (xs ys : List Frame) (os os' : List Outcome) → AsksAll grown before rs (map Ask (requests_in xs)) os between → AsksAll grown between rs' (map Ask (requests_in ys)) os' after → AsksAll grown before (rs ++ rs') (map Ask (requests_in (xs ++ ys))) (os ++ os') after
-  asked-append before between after rs rs' xs ys os os' first then =
-      let events : map Ask (requests_in (xs ++ ys)) ≡ map Ask (requests_in xs) ++ map Ask (requests_in ys) = ap (map Ask) (requests_in-append xs ys) ∙ map-append Ask (requests_in xs) (requests_in ys) in
-      subst (λ (v : List Event). AsksAll grown before (rs ++ rs') v (os ++ os') after) (sym events)
-      (AsksAll-append grown on first then)
+module _ {S : Type 0} (rule : ReplyRule) (grown : S → List (Marked Event Outcome) → S → Type 0) (on : (before between after : S) (more then : List (Marked Event Outcome)) → grown before more between → grown between then after → grown before (more ++ then) after) where
+  -- frames that were all answered, and then others
+  abbrev answers-append : (xs ys : List Frame) (first then : Asked) (a : AnswersFrames rule xs first) → a.is_whole ≡ true → AnswersFrames rule ys then
+      → AnswersFrames rule (xs ++ ys) (asked_on first then)
+  answers-append xs ys first then a all b =
+      answered_as rule (requests_in xs ++ requests_in ys) (requests_in (xs ++ ys)) (asked_on first then)
+      (answered_on rule (requests_in xs) (requests_in ys) first then a all b) (sym (requests_in-append xs ys))
 
-  abbrev asks-append : (before between after : S) (g g' g'' : Option (List ℕ)) (t t' t'' : LinkTold) (xs ys : List Frame) → AsksFrames grown before between g g' t t' xs → AsksFrames grown between after g' g'' t' t'' ys → AsksFrames grown before after g g'' t t'' (xs ++ ys)
-  asks-append before between after g g' g'' t t' t'' xs ys a b = record {
-    readings = a.readings ++ b.readings;
-    outcomes = a.outcomes ++ b.outcomes;
-    replies = a.replies ++ b.replies;
-    carried = a.carried ++ b.carried;
-    asked = asked-append before between after a.readings b.readings xs ys a.outcomes b.outcomes a.asked b.asked;
-    clock = Tells-append a.readings b.readings g g' g'' a.clock b.clock;
-    gives = gave-append xs ys a.outcomes b.outcomes a.replies b.replies a.carried b.carried a.gives b.gives;
-    link = Carries-append a.carried b.carried t t' t'' a.link b.link;
+  abbrev asks-append : (before between after : S) (g g' g'' : Option (List ℕ)) (t t' t'' : LinkTold) (xs ys : List Frame)
+      → (a : AsksFrames rule grown before between g g' t t' xs) → a.answers.is_whole ≡ true → AsksFrames rule grown between after g' g'' t' t'' ys
+      → AsksFrames rule grown before after g g'' t t'' (xs ++ ys)
+  asks-append before between after g g' g'' t t' t'' xs ys a all b = record {
+    asked = asked_on a.asked b.asked;
+    asks = has_asked_on grown on before between after g g' g'' t t' t'' a.asked b.asked a.asks b.asks;
+    answers = answers-append xs ys a.asked b.asked a.answers all b.answers;
   }
 
   -- ---- what goes on, and then goes on or ends
 
   pub Goes-then : (place between next : ℕ) (before seat after : S) (old mid new : Outside)
-      → Goes place between grown before seat old mid
-      → Goes between next grown seat after mid new
-      → Goes place next grown before after old new
+      → Goes place between rule grown before seat old mid
+      → Goes between next rule grown seat after mid new
+      → Goes place next rule grown before after old new
   Goes-then place between next before seat after old mid new a b = record {
     heard = a.heard ++ b.heard;
-    asks = asks-append before seat after old.readings mid.readings new.readings old.link mid.link new.link a.heard b.heard a.asks b.asks;
+    asks = asks-append before seat after old.readings mid.readings new.readings old.link mid.link new.link a.heard b.heard a.asks a.all b.asks;
+    all = b.all;
     places = rw length-append (omega (arith, a.places, b.places));
     stays_on = some_closes-append a.heard b.heard place a.stays_on ∙ ap (some_closes b.heard) a.places ∙ b.stays_on;
     stream = Leads-append a.heard b.heard old.left mid.left new.left a.stream b.stream;
     said =
-        let fit = gives-length (requests_in a.heard) a.asks.outcomes a.asks.replies a.asks.carried a.asks.gives in
-        rw (reply_texts-append a.heard b.heard place a.asks.replies b.asks.replies a.stays_on fit, a.places, length-append)
+        let fit = answered_length rule (requests_in a.heard) a.asks.asked a.asks.answers in
+        rw (reply_texts-append a.heard b.heard place a.asks.answers.replies b.asks.answers.replies a.stays_on fit, a.places, length-append)
         (Puts-append old.out mid.out new.out _ _ (length a.heard) (length b.heard) a.said b.said);
   }
 
   pub Serves-then : (place between : ℕ) (before seat after : S) (old mid new : Outside) (ended : Ended)
-      → Goes place between grown before seat old mid
-      → ServesFrom between grown seat after mid new ended
-      → ServesFrom place grown before after old new ended
-  Serves-then place between before seat after old mid new ended a b = record {
-    heard = a.heard ++ b.heard;
-    refused = b.refused;
-    asks = asks-append before seat after old.readings mid.readings new.readings old.link mid.link new.link a.heard b.heard a.asks b.asks;
-    up_to = ends_at_close-append a.heard b.heard place a.stays_on (rw a.places b.up_to);
-    stream = stream_then place between a.heard b.heard b.refused ended old.left mid.left new.left a.stays_on a.places a.stream b.stream;
-    said =
-        let fit = gives-length (requests_in a.heard) a.asks.outcomes a.asks.replies a.asks.carried a.asks.gives in
-        let joined = before_last-joined a.heard b.heard place b.refused a.asks.replies b.asks.replies a.stays_on fit in
-        let whole = before_last-whole a.heard b.heard place b.refused a.asks.replies b.asks.replies a.stays_on fit in
-        let said =
-        Says-then old.out mid.out new.out (reply_texts a.heard place a.asks.replies) (talk_before_last (place + length a.heard) b.heard b.refused b.asks.replies)
-        (talk_before_last place (a.heard ++ b.heard) b.refused (a.asks.replies ++ b.asks.replies)) (talk (place + length a.heard) b.heard b.refused b.asks.replies) joined.0
-        (length a.heard) (talk_length b.heard b.refused) joined.1 whole a.said ended
-        (rw a.places b.said) in
-        rw (talk-append a.heard b.heard place b.refused a.asks.replies b.asks.replies a.stays_on fit, talk_length-append a.heard b.heard b.refused) said;
-  }
+      → Goes place between rule grown before seat old mid
+      → ServesFrom between rule grown seat after mid new ended
+      → ServesFrom place rule grown before after old new ended
+  Serves-then place between before seat after old mid new ended a b =
+      let t = b.talks in
+      let said = a.asks.answers.replies in
+      let more = t.answers.replies in
+      let fit = answered_length rule (requests_in a.heard) a.asks.asked a.asks.answers in
+      let joined = before_last-joined a.heard t.heard place t.refused said more a.stays_on fit in
+      let whole = before_last-whole a.heard t.heard place t.refused said more a.stays_on fit in record {
+        asked = asked_on a.asks.asked b.asked;
+        asks = has_asked_on grown on before seat after old.readings mid.readings new.readings old.link mid.link new.link a.asks.asked b.asked a.asks.asks b.asks;
+        talks = record {
+          heard = a.heard ++ t.heard;
+          refused = t.refused;
+          answers = answers-append a.heard t.heard a.asks.asked b.asked a.asks.answers a.all t.answers;
+          up_to = ends_at_close-append a.heard t.heard place a.stays_on (rw a.places t.up_to);
+          stream = stream_then place between a.heard t.heard t.refused ended old.left mid.left new.left a.stays_on a.places a.stream t.stream;
+          says =
+              let says =
+              Says-then old.out mid.out new.out (reply_texts a.heard place said) (talk_before_last (place + length a.heard) t.heard t.refused more)
+              (talk_before_last place (a.heard ++ t.heard) t.refused (said ++ more)) (talk (place + length a.heard) t.heard t.refused more) joined.0
+              (length a.heard) (talk_length t.heard t.refused) joined.1 whole a.said ended
+              (rw a.places t.says) in
+              rw (talk-append a.heard t.heard place t.refused said more a.stays_on fit, talk_length-append a.heard t.heard t.refused) says;
+          cut = λ begun.
+              let less : PutsOneLess (talk_before_last (place + length a.heard) t.heard t.refused more) (talk_length t.heard t.refused) mid.out new.out =
+              rw a.places ((t.cut begun).1) in (
+                (t.cut begun).0,
+                rw (talk_length-append a.heard t.heard t.refused)
+                    (less_behind old.out mid.out new.out (reply_texts a.heard place said) (talk_before_last (place + length a.heard) t.heard t.refused more)
+                    (talk_before_last place (a.heard ++ t.heard) t.refused (said ++ more))
+                    (length a.heard) (talk_length t.heard t.refused) (whole less.less less.is_less) a.said less),
+              );
+        };
+      }

@@ -1,24 +1,20 @@
 -- What serving a connection does: to its bytes, to the seat at the desk, to the clock and to the
 -- link.
 use Rattle.std.specs.Prelude.{◌≡◌, ◌≢◌, ◌⊎◌, ℕ, ◌+◌, ◌<◌, Bool, true, false, List, []}
-use Rattle.std.specs.Prelude.{◌++◌, length, map, Option, IfSome, IsTrue}
-use Rattle.m2m_io.specs.Link.{Carrying}
-use Rattle.cse_server.specs.Outside.{Carries, LinkTold, Outside, Puts, SinkTold}
-use Rattle.m2m_io.specs.Told.{Tells}
-use Rattle.primitive_json.specs.declared.reply.ReplyParts.{ReplyParts}
+use Rattle.std.specs.Prelude.{◌++◌, length, Option, IfSome, IsTrue}
+use Rattle.desk_replies.specs.Asking.{Asked, HasAsked}
+use Rattle.desk_replies.specs.Rule.{IsAnswered, ReplyRule}
+use Rattle.cse_server.specs.Outside.{Outside, Puts, SinkTold}
 use Rattle.turn_desk.specs.Entries.{Marked}
-use Rattle.turn_desk.specs.Growth.{AsksAll}
 use Rattle.http_frames.specs.declared.frame.Frame.{Frame}
 use Rattle.http_frames.specs.declared.frame.Side.TheVariants.{Request}
 use Rattle.http_frames.specs.Inbox.{most_held}
 use Rattle.http_frames.specs.Stream.{BeginsWithFrames, HasNoFrame}
 use Rattle.cse_machine.specs.declared.event.Event.{Event}
-use Rattle.cse_machine.specs.declared.event.Event.TheVariants.{Ask}
 use Rattle.cse_machine.specs.declared.event.Outcome.{Outcome}
 use Rattle.cse_server.specs.declared.connection.Ended.{Ended}
 use Rattle.cse_server.specs.declared.connection.Ended.TheVariants.{Closed, NoFrame, ReadFault}
 use Rattle.cse_server.specs.declared.connection.Ended.TheVariants.{WriteFault, Memory}
-use Rattle.cse_server.specs.Replies.{GivesReplies}
 use Rattle.cse_server.specs.Talk.{requests_in, talk, talk_before_last, talk_length, some_closes}
 use Rattle.cse_server.specs.Talk.{ends_at_close}
 
@@ -82,42 +78,45 @@ Says WriteFault before text count old new = PutsCut before text count old new
 Says Memory before text count old new =
     Puts text count old new ⊎ PutsOneLess before count old new
 
--- Frames were put to a seat: it asked each request to which one of them binds, in order, at the
--- readings that a clock gave, and the outcomes gave the replies, for which this was carried over a
--- link. Clock and link told these before and tell those now.
-pub record AsksFrames {S : Type 0} (grown : S → List (Marked Event Outcome) → S → Type 0)
-    (before after : S) (given now : Option (List ℕ)) (told more : LinkTold)
-    (frames : List Frame) : Type 0 where
-  pub readings : List ℕ
-  pub outcomes : List Outcome
-  pub replies : List ReplyParts
-  pub carried : List Carrying
-  pub asked : AsksAll grown before readings (map Ask (requests_in frames)) outcomes after
-  pub clock : Tells (λ list. list ++ readings) given now
-  pub gives : GivesReplies (requests_in frames) outcomes replies carried
-  pub link : Carries carried told more
+-- The frames from this place on were answered by this rule: the requests to which they bind, in
+-- order.
+abbrev pub AnswersFrames : ReplyRule → List Frame → Asked → Type 0
+AnswersFrames rule frames asked = IsAnswered rule (requests_in frames) asked
 
--- A connection was served at a seat, from the frame at this place on, what the objects outside told
--- being first `old` and now `new`. Of the bytes that it had left, `heard` are the requests that
--- were read.
-pub record ServesFrom {S : Type 0} (place : ℕ)
-    (grown : S → List (Marked Event Outcome) → S → Type 0) (before after : S)
-    (old new : Outside) (ended : Ended) : Type 0 where
+-- A connection was answered by this rule, from the frame at this place on: what it had left to
+-- read is first `old` and now `new`, and what was written to it first `said` and now `told`. Of the
+-- bytes that it had left, `heard` are the requests that were read.
+pub record Talks (rule : ReplyRule) (place : ℕ) (asked : Asked) (old new : Option (List ℕ))
+    (said told : SinkTold) (ended : Ended) : Type 0 where
   pub heard : List Frame
   pub refused : Bool
-  -- they were put to the seat
-  pub asks : AsksFrames grown before after old.readings new.readings old.link new.link heard
+  -- what was asked is what the rule has asked for them
+  pub answers : AnswersFrames rule heard asked
   -- they are the requests of the stream up to the first that closes, and it ended as they and the
   -- rest say
   pub up_to : IsTrue (ends_at_close heard place)
-  pub stream : IfSome old.left (λ bytes. (rest : List ℕ) × BeginsWithFrames Request bytes heard rest
+  pub stream : IfSome old (λ bytes. (rest : List ℕ) × BeginsWithFrames Request bytes heard rest
       × RefusesRightly place refused heard rest
-      × EndsRightly place ended refused heard rest new.left)
+      × EndsRightly place ended refused heard rest new)
   -- their talk by these replies is written
-  pub said : Says ended (talk_before_last place heard refused asks.replies)
-      (talk place heard refused asks.replies) (talk_length heard refused) old.out new.out
+  pub says : Says ended (talk_before_last place heard refused answers.replies)
+      (talk place heard refused answers.replies) (talk_length heard refused) said told
+  -- where memory ran out in what is asked for the last one, the reply to it isn't begun
+  pub cut : answers.is_whole ≡ false
+      → (ended ≡ Memory) × PutsOneLess (talk_before_last place heard refused answers.replies)
+      (talk_length heard refused) said told
+
+-- A connection was served at a seat by this rule, from the frame at this place on, what the objects
+-- outside told being first `old` and now `new`: the seat asked this, and the connection was
+-- answered by it.
+pub record ServesFrom {S : Type 0} (place : ℕ) (rule : ReplyRule)
+    (grown : S → List (Marked Event Outcome) → S → Type 0) (before after : S)
+    (old new : Outside) (ended : Ended) : Type 0 where
+  pub asked : Asked
+  pub asks : HasAsked grown before after old.readings new.readings old.link new.link asked
+  pub talks : Talks rule place asked old.left new.left old.out new.out ended
 
 -- A connection was served at a seat, from its first frame on.
-abbrev pub Serves : {S : Type 0} → (S → List (Marked Event Outcome) → S → Type 0) → S → S
-    → Outside → Outside → Ended → Type 0
-Serves grown before after old new ended = ServesFrom 1 grown before after old new ended
+abbrev pub Serves : {S : Type 0} → ReplyRule → (S → List (Marked Event Outcome) → S → Type 0) → S
+    → S → Outside → Outside → Ended → Type 0
+Serves rule grown before after old new ended = ServesFrom 1 rule grown before after old new ended

@@ -2,7 +2,6 @@ pub mod Attending
 pub mod Closing
 pub mod Connection
 pub mod Outside
-pub mod Replies
 pub mod Sending
 pub mod Talk
 pub mod Way

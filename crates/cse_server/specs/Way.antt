@@ -1,9 +1,9 @@
 -- A connection on its way: what its calls say of the frames so far.
 use Rattle.std.specs.Prelude.{◌≡◌, ◌⊎◌, ℕ, ◌+◌, true, false, List, [], ◌∷◌, length}
 use Rattle.std.specs.Prelude.{Option, Some, None, IfOk, Result, ⊤}
-use Rattle.m2m_io.specs.Link.{Carrying}
-use Rattle.cse_server.specs.Outside.{Carries, LinkTold, Outside, Puts, PutsPart, SinkTold}
-use Rattle.primitive_json.specs.declared.request.RequestParts.{RequestParts}
+use Rattle.desk_replies.specs.Asking.{Asked, HasAsked}
+use Rattle.desk_replies.specs.Rule.{ReplyRule}
+use Rattle.cse_server.specs.Outside.{LinkTold, Outside, Puts, PutsPart, SinkTold}
 use Rattle.primitive_json.specs.declared.reply.ReplyParts.{ReplyParts}
 use Rattle.turn_desk.specs.Entries.{Marked}
 use Rattle.http_frames.specs.declared.frame.Frame.{Frame}
@@ -12,18 +12,25 @@ use Rattle.http_frames.specs.declared.fault.PutFault.TheVariants.{WriteFault as 
 use Rattle.http_frames.specs.declared.fault.PutFault.TheVariants.{OutOfMemory as PutMemory}
 use Rattle.cse_machine.specs.declared.event.Event.{Event}
 use Rattle.cse_machine.specs.declared.event.Outcome.{Outcome}
-use Rattle.cse_machine.specs.declared.event.Outcome.TheVariants.{Done, Forward, Item, Ticked}
-use Rattle.cse_machine.specs.declared.event.Outcome.TheVariants.{Starved}
 use Rattle.cse_server.specs.declared.connection.Ended.{Ended}
 use Rattle.cse_server.specs.declared.connection.Ended.TheVariants.{Closed, NoFrame, ReadFault}
 use Rattle.cse_server.specs.declared.connection.Ended.TheVariants.{WriteFault, Memory}
 use Rattle.cse_server.specs.Closing.{closes}
-use Rattle.cse_server.specs.Replies.{GivesReply}
 use Rattle.cse_server.specs.Talk.{request_in, reply_for, reply_texts, last_reply}
 use Rattle.cse_server.specs.Talk.{some_closes}
 use Rattle.http_frames.specs.declared.frame.Side.TheVariants.{Request}
 use Rattle.http_frames.specs.Stream.{BeginsWithFrames}
-use Rattle.cse_server.specs.Connection.{AsksFrames}
+use Rattle.cse_server.specs.Connection.{AnswersFrames}
+
+-- Frames were put to a seat, and were answered by this rule. Clock and link told these before and
+-- tell those now.
+pub record AsksFrames {S : Type 0} (rule : ReplyRule)
+    (grown : S → List (Marked Event Outcome) → S → Type 0)
+    (before after : S) (given now : Option (List ℕ)) (told more : LinkTold)
+    (frames : List Frame) : Type 0 where
+  pub asked : Asked
+  pub asks : HasAsked grown before after given now told more asked
+  pub answers : AnswersFrames rule frames asked
 
 -- The stream, where it is told, was these requests and then what is left of it now.
 abbrev pub Leads : Option (List ℕ) → List Frame → Option (List ℕ) → Type 0
@@ -33,41 +40,28 @@ Leads (Some stream) heard (Some rest) = BeginsWithFrames Request stream heard re
 
 -- The connection goes on: the frames from this place up to the next were answered, and none of them
 -- closes.
-pub record Goes {S : Type 0} (place next : ℕ) (grown : S → List (Marked Event Outcome) → S → Type 0)
+pub record Goes {S : Type 0} (place next : ℕ) (rule : ReplyRule)
+    (grown : S → List (Marked Event Outcome) → S → Type 0)
     (before after : S) (old new : Outside) : Type 0 where
   pub heard : List Frame
-  pub asks : AsksFrames grown before after old.readings new.readings old.link new.link heard
+  pub asks : AsksFrames rule grown before after old.readings new.readings old.link new.link heard
+  pub all : asks.answers.is_whole ≡ true
   pub places : place + length heard ≡ next
   pub stays_on : some_closes heard place ≡ false
   pub stream : Leads old.left heard new.left
-  pub said : Puts (reply_texts heard place asks.replies) (length heard) old.out new.out
+  pub said : Puts (reply_texts heard place asks.answers.replies) (length heard) old.out new.out
 
--- the reply that an outcome is
-abbrev pub reply_of : Outcome → Option ReplyParts
-reply_of (Done reply) = Some reply
-reply_of (Forward poa sent) = None
-reply_of (Item given) = None
-reply_of Ticked = None
-reply_of (Starved done) = None
-
--- The outcome of a request gave this reply over a link that told `old` before and tells `new` now,
--- unless memory ran out.
-pub record RepliesOver {E : Type 0}
-    (request : RequestParts) (outcome : Outcome) (old new : LinkTold)
-    (result : Result ReplyParts E) : Type 0 where
-  pub reply : ReplyParts
-  pub carried : List Carrying
-  pub gives : GivesReply request outcome reply carried
-  pub link : Carries carried old new
-  pub replied : IfOk result (λ r. r ≡ reply)
-
--- A frame was asked, if it binds, and this is the reply, unless memory ran out.
-pub record Hears {S E : Type 0}
+-- A frame was heard, and asked if it binds, and this is the reply. Where memory ran out it may be
+-- that it wasn't heard.
+pub record Hears {S E : Type 0} (rule : ReplyRule)
     (grown : S → List (Marked Event Outcome) → S → Type 0) (before after : S)
     (given now : Option (List ℕ)) (told more : LinkTold)
     (frame : Frame) (result : Result ReplyParts E) : Type 0 where
-  pub asks : AsksFrames grown before after given now told more (frame ∷ [])
-  pub replied : IfOk result (λ r. r ≡ reply_for frame (request_in frame) asks.replies)
+  pub heard : List Frame
+  pub either : (heard ≡ frame ∷ []) ⊎ (heard ≡ [])
+  pub asks : AsksFrames rule grown before after given now told more heard
+  pub replied : IfOk result (λ r. (heard ≡ frame ∷ []) × (asks.answers.is_whole ≡ true)
+      × (r ≡ reply_for frame (request_in frame) asks.answers.replies))
 
 -- how a connection ends where a reply isn't written
 abbrev pub end_of_put : PutFault → Ended
@@ -93,10 +87,12 @@ SaysTurn place frame (Some WriteFault) text old new = PutsPart text old new
 SaysTurn place frame (Some Memory) text old new = new ≡ old
 
 -- The frame at this place was heard and answered; or it wasn't heard, as memory ran out before.
-pub record AnswersFrame {S : Type 0} (place : ℕ)
+pub record AnswersFrame {S : Type 0} (place : ℕ) (rule : ReplyRule)
     (grown : S → List (Marked Event Outcome) → S → Type 0)
     (before after : S) (old new : Outside) (frame : Frame) (ended : Option Ended) : Type 0 where
   pub heard : List Frame
   pub either : (heard ≡ frame ∷ []) ⊎ ((heard ≡ []) × (ended ≡ Some Memory))
-  pub asks : AsksFrames grown before after old.readings new.readings old.link new.link heard
-  pub said : SaysTurn place frame ended (reply_texts heard place asks.replies) old.out new.out
+  pub asks : AsksFrames rule grown before after old.readings new.readings old.link new.link heard
+  pub cut : asks.answers.is_whole ≡ false → ended ≡ Some Memory
+  pub said : SaysTurn place frame ended (reply_texts heard place asks.answers.replies)
+      old.out new.out

@@ -2,6 +2,7 @@
 ghost use Rattle.std.specs.Prelude.{◌≡◌, ◌<◌, ◌+◌, length, false, Some, None, MatchOption};
 ghost use Rattle.std.specs.Result.{result_ok};
 ghost use Rattle.m2m_io.specs.Counts.{CountsFault};
+ghost use Rattle.desk_replies.specs.Rule.{plainly};
 ghost use Rattle.cse_server.specs.Outside.{EndsByFault, link_told, outside, sink_told};
 ghost use Rattle.http_frames.specs.Inbox.{TakesNext, most_held, stream_of};
 ghost use Rattle.http_frames.specs.declared.frame.Side.TheVariants.{Request as AsRequest};
@@ -10,8 +11,9 @@ ghost use Rattle.cse_server.specs.Connection.{Serves, ServesFrom};
 ghost use Rattle.cse_server.specs.Way.{AnswersFrame, Goes, Hears, Refuses};
 
 use crate::closing::{MOST_FRAMES, closes};
-use crate::replying::{put_last_reply, put_reply, refusal_of, reply_by};
+use crate::replying::{id_of, put_last_reply, put_reply, refusal_of};
 use cse_machine::{Event, Outcome};
+use desk_replies::{Plainly, Replier};
 use http_binding::{BindFault, BodyRoom, ReplyRoom, to_request_in};
 use http_frames::{Frame, FrameFault, Inbox, Next, PutFault};
 use m2m_io::{Clock, Connection, Link};
@@ -49,84 +51,37 @@ impl From<PutFault> for Ended {
     }
 }
 
-/// The reply to a frame: by what the desk answers the request that it binds to, if any.
-fn reply_for<D, C, L>(
-    alloc: Global,
-    desk: &D,
-    seat: &mut D::Seat,
-    clock: &mut C,
-    link: &mut L,
-    frame: &Frame,
-    asked: Result<Request, BindFault>,
-) -> Result<Reply, OutOfMemory>
-where
-    D: Desk<Event = Event, Outcome = Outcome>,
-    C: Clock,
-    L: Link,
-    requires seats { D.seats desk.now seat.old }
-    requires asked { result_ok asked ≡ request_in frame.now }
-    ensures seats { D.seats desk.now seat.new }
-    ensures hears { Hears D.grown seat.old seat.new
-        (C.readings clock.old) (C.readings clock.new)
-        (link_told (L.exchanges link.old) (L.faults link.old))
-        (link_told (L.exchanges link.new) (L.faults link.new)) frame.now result }
-{
-    match asked {
-        Err(_) => refusal_of(alloc, frame),
-        Ok(request) => {
-            let reading = clock.now();
-            let outcome = desk.ask(seat, reading, Event::Ask(request));
-            reply_by(alloc, link, frame, outcome)
-        }
+/// What answers the requests of connections: where they are asked, and what makes replies of the
+/// answers.
+pub struct Answerer<'a, D, W> {
+    pub alloc: Global,
+    pub desk: &'a D,
+    pub replier: &'a W,
+}
+
+impl<D, W> Drop for Answerer<'_, D, W> {
+    fn drop(self) {
+        let Answerer {
+            alloc: _,
+            desk: _,
+            replier: _,
+        } = self;
     }
 }
 
-/// Answers the frame at this place, from 1. None where the connection goes on.
-fn answer<D, X, C, L>(
-    alloc: Global,
-    desk: &D,
-    seat: &mut D::Seat,
-    conn: &mut X,
-    clock: &mut C,
-    link: &mut L,
-    bodies: &mut BodyRoom,
-    room: &mut ReplyRoom,
+/// What one connection is read and answered with.
+#[derive(Drop)]
+struct Rooms {
+    inbox: Inbox,
+    bodies: BodyRoom,
+    replies: ReplyRoom,
+}
+
+/// A frame, and its place on its connection, from 1.
+#[derive(Drop)]
+struct Heard {
     place: u64,
-    frame: &Frame,
-) -> Option<Ended>
-where
-    D: Desk<Event = Event, Outcome = Outcome>,
-    X: Connection,
-    C: Clock,
-    L: Link,
-    requires { D.seats desk.now seat.old }
-    ensures seats { D.seats desk.now seat.new }
-    ensures answers { let old = outside (X.left conn.old)
-        (sink_told (X.written conn.old) (X.puts conn.old)) (C.readings clock.old)
-        (link_told (L.exchanges link.old) (L.faults link.old)) in
-        let new = outside (X.left conn.new)
-        (sink_told (X.written conn.new) (X.puts conn.new)) (C.readings clock.new)
-        (link_told (L.exchanges link.new) (L.faults link.new)) in
-        AnswersFrame place D.grown seat.old seat.new old new frame.now result }
-    ensures writes { EndsByFault (Some Ended.WriteFault) result
-        (X.Sink.faults conn.old) (X.Sink.faults conn.new) }
-    ensures left { X.left conn.new ≡ X.left conn.old }
-    ensures read_faults { X.Source.faults conn.new ≡ X.Source.faults conn.old }
-    ensures holds { (X.kept_by_read conn.new).holds ≡ (X.kept_by_read conn.old).holds }
-{
-    let asked = to_request_in(alloc, bodies, frame);
-    if let Err(BindFault::OutOfMemory) = asked {
-        return Some(Ended::Memory);
-    }
-    let Ok(reply) = reply_for(alloc, desk, seat, clock, link, frame, asked) else {
-        return Some(Ended::Memory);
-    };
-    let close = closes(place, frame);
-    match put_reply(alloc, conn, room, &reply, close) {
-        Ok(()) if close => Some(Ended::Closed),
-        Ok(()) => None,
-        Err(fault) => Some(Ended::from(fault)),
-    }
+    frame: Frame,
 }
 
 /// Ends a connection on which no frame can stand.
@@ -163,58 +118,169 @@ fn read_next<X: Connection>(
     inbox.next_request(alloc, conn)
 }
 
-/// Serves what stands next on a connection, where it has the place `place`, from 1. None where the
-/// connection goes on.
-fn serve_next<D, X, C, L>(
-    alloc: Global,
-    desk: &D,
-    seat: &mut D::Seat,
-    conn: &mut X,
-    clock: &mut C,
-    link: &mut L,
-    inbox: &mut Inbox,
-    bodies: &mut BodyRoom,
-    room: &mut ReplyRoom,
-    place: u64,
-) -> Option<Ended>
+impl<D, W> Answerer<'_, D, W>
 where
     D: Desk<Event = Event, Outcome = Outcome>,
-    X: Connection,
-    C: Clock,
-    L: Link,
-    requires seats { D.seats desk.now seat.old }
-    requires still_open { inbox.old.refused ≡ false }
-    requires few { length inbox.old.held < most_held AsRequest }
-    ensures few { length inbox.new.held < most_held AsRequest }
-    ensures seats { D.seats desk.now seat.new }
-    ensures next { let stream = stream_of inbox.old.held (X.left conn.old) in
-        let old = outside stream (sink_told (X.written conn.old) (X.puts conn.old))
-        (C.readings clock.old) (link_told (L.exchanges link.old) (L.faults link.old)) in
-        let new = outside (X.left conn.new)
-        (sink_told (X.written conn.new) (X.puts conn.new)) (C.readings clock.new)
-        (link_told (L.exchanges link.new) (L.faults link.new)) in
-        let on = record new { left = stream_of inbox.new.held (X.left conn.new) } in
-        MatchOption result
-        ((inbox.new.refused ≡ false) × Goes place (place + 1) D.grown seat.old seat.new old on)
-        (ServesFrom place D.grown seat.old seat.new old new) }
-    ensures reads { EndsByFault (Some Ended.ReadFault) result
-        (X.Source.faults conn.old) (X.Source.faults conn.new) }
-    ensures writes { EndsByFault (Some Ended.WriteFault) result
-        (X.Sink.faults conn.old) (X.Sink.faults conn.new) }
-    ensures holds { (X.kept_by_read conn.new).holds ≡ (X.kept_by_read conn.old).holds }
+    W: Replier,
 {
-    match read_next(alloc, conn, inbox) {
-        Ok(Next::Message(frame)) => {
-            let ended = answer(
-                alloc, desk, seat, conn, clock, link, bodies, room, place, &frame,
-            );
-            inbox.give_back(frame);
-            ended
+    /// The reply to a frame: to the request that it binds to, if any.
+    fn reply_for<C: Clock, L: Link>(
+        &self,
+        seat: &mut D::Seat,
+        clock: &mut C,
+        link: &mut L,
+        frame: &Frame,
+        asked: Result<Request, BindFault>,
+    ) -> Result<Reply, OutOfMemory>
+        requires seats { D.seats self.now.desk.now seat.old }
+        requires asked { result_ok asked ≡ request_in frame.now }
+        ensures seats { D.seats self.now.desk.now seat.new }
+        ensures hears { Hears (W.rule self.now.replier.now) D.grown seat.old seat.new
+            (C.readings clock.old) (C.readings clock.new)
+            (link_told (L.exchanges link.old) (L.faults link.old))
+            (link_told (L.exchanges link.new) (L.faults link.new)) frame.now result }
+    {
+        match asked {
+            Err(_) => refusal_of(self.alloc, frame),
+            Ok(request) => {
+                let id = id_of(frame, &request);
+                self.replier
+                    .reply(self.alloc, self.desk, seat, clock, link, id, request)
+            }
         }
-        Ok(Next::End) => Some(Ended::Closed),
-        Err(FrameFault::NoFrame) => Some(end_refused(alloc, conn, room)),
-        Err(FrameFault::ReadFault) => Some(Ended::ReadFault),
-        Err(FrameFault::OutOfMemory) => Some(Ended::Memory),
+    }
+
+    /// Answers a frame. None where the connection goes on.
+    fn answer<X: Connection, C: Clock, L: Link>(
+        &self,
+        seat: &mut D::Seat,
+        conn: &mut X,
+        clock: &mut C,
+        link: &mut L,
+        rooms: &mut Rooms,
+        heard: &Heard,
+    ) -> Option<Ended>
+        requires { D.seats self.now.desk.now seat.old }
+        ensures seats { D.seats self.now.desk.now seat.new }
+        ensures answers { let old = outside (X.left conn.old)
+            (sink_told (X.written conn.old) (X.puts conn.old)) (C.readings clock.old)
+            (link_told (L.exchanges link.old) (L.faults link.old)) in
+            let new = outside (X.left conn.new)
+            (sink_told (X.written conn.new) (X.puts conn.new)) (C.readings clock.new)
+            (link_told (L.exchanges link.new) (L.faults link.new)) in
+            AnswersFrame heard.now.place (W.rule self.now.replier.now) D.grown seat.old seat.new
+            old new heard.now.frame result }
+        ensures writes { EndsByFault (Some Ended.WriteFault) result
+            (X.Sink.faults conn.old) (X.Sink.faults conn.new) }
+        ensures left { X.left conn.new ≡ X.left conn.old }
+        ensures read_faults { X.Source.faults conn.new ≡ X.Source.faults conn.old }
+        ensures holds { (X.kept_by_read conn.new).holds ≡ (X.kept_by_read conn.old).holds }
+        ensures inbox { rooms.new.inbox ≡ rooms.old.inbox }
+    {
+        let asked = to_request_in(self.alloc, &mut rooms.bodies, &heard.frame);
+        if let Err(BindFault::OutOfMemory) = asked {
+            return Some(Ended::Memory);
+        }
+        let Ok(reply) = self.reply_for(seat, clock, link, &heard.frame, asked) else {
+            return Some(Ended::Memory);
+        };
+        let close = closes(heard.place, &heard.frame);
+        match put_reply(self.alloc, conn, &mut rooms.replies, &reply, close) {
+            Ok(()) if close => Some(Ended::Closed),
+            Ok(()) => None,
+            Err(fault) => Some(Ended::from(fault)),
+        }
+    }
+
+    /// Serves what stands next on a connection, where it has the place `place`, from 1. None where
+    /// the connection goes on.
+    fn serve_next<X: Connection, C: Clock, L: Link>(
+        &self,
+        seat: &mut D::Seat,
+        conn: &mut X,
+        clock: &mut C,
+        link: &mut L,
+        rooms: &mut Rooms,
+        place: u64,
+    ) -> Option<Ended>
+        requires seats { D.seats self.now.desk.now seat.old }
+        requires still_open { rooms.old.inbox.refused ≡ false }
+        requires few { length rooms.old.inbox.held < most_held AsRequest }
+        ensures few { length rooms.new.inbox.held < most_held AsRequest }
+        ensures seats { D.seats self.now.desk.now seat.new }
+        ensures next { let rule = W.rule self.now.replier.now in
+            let stream = stream_of rooms.old.inbox.held (X.left conn.old) in
+            let old = outside stream (sink_told (X.written conn.old) (X.puts conn.old))
+            (C.readings clock.old) (link_told (L.exchanges link.old) (L.faults link.old)) in
+            let new = outside (X.left conn.new)
+            (sink_told (X.written conn.new) (X.puts conn.new)) (C.readings clock.new)
+            (link_told (L.exchanges link.new) (L.faults link.new)) in
+            let on = record new { left = stream_of rooms.new.inbox.held (X.left conn.new) } in
+            MatchOption result ((rooms.new.inbox.refused ≡ false)
+            × Goes place (place + 1) rule D.grown seat.old seat.new old on)
+            (ServesFrom place rule D.grown seat.old seat.new old new) }
+        ensures reads { EndsByFault (Some Ended.ReadFault) result
+            (X.Source.faults conn.old) (X.Source.faults conn.new) }
+        ensures writes { EndsByFault (Some Ended.WriteFault) result
+            (X.Sink.faults conn.old) (X.Sink.faults conn.new) }
+        ensures holds { (X.kept_by_read conn.new).holds ≡ (X.kept_by_read conn.old).holds }
+    {
+        match read_next(self.alloc, conn, &mut rooms.inbox) {
+            Ok(Next::Message(frame)) => {
+                let heard = Heard { place, frame };
+                let ended = self.answer(seat, conn, clock, link, rooms, &heard);
+                rooms.inbox.give_back(heard.frame);
+                ended
+            }
+            Ok(Next::End) => Some(Ended::Closed),
+            Err(FrameFault::NoFrame) => Some(end_refused(self.alloc, conn, &mut rooms.replies)),
+            Err(FrameFault::ReadFault) => Some(Ended::ReadFault),
+            Err(FrameFault::OutOfMemory) => Some(Ended::Memory),
+        }
+    }
+
+    /// Serves one connection to its end, as `serve_connection` does, by what the replier makes of
+    /// the answers.
+    pub fn serve<X: Connection, C: Clock, L: Link>(
+        &self,
+        seat: &mut D::Seat,
+        conn: &mut X,
+        clock: &mut C,
+        link: &mut L,
+    ) -> Ended
+        requires { D.seats self.now.desk.now seat.old }
+        ensures seats { D.seats self.now.desk.now seat.new }
+        ensures serves { let old = outside (X.left conn.old)
+            (sink_told (X.written conn.old) (X.puts conn.old)) (C.readings clock.old)
+            (link_told (L.exchanges link.old) (L.faults link.old)) in
+            let new = outside (X.left conn.new)
+            (sink_told (X.written conn.new) (X.puts conn.new)) (C.readings clock.new)
+            (link_told (L.exchanges link.new) (L.faults link.new)) in
+            Serves (W.rule self.now.replier.now) D.grown seat.old seat.new old new result }
+
+        // A fault is answered where the connection failed in this call, and only there.
+        ensures reads { EndsByFault Ended.ReadFault result
+            (X.Source.faults conn.old) (X.Source.faults conn.new) }
+        ensures writes { EndsByFault Ended.WriteFault result
+            (X.Sink.faults conn.old) (X.Sink.faults conn.new) }
+
+        // A connection that borrows its sides still holds these.
+        ensures holds { (X.kept_by_read conn.new).holds ≡ (X.kept_by_read conn.old).holds }
+    {
+        let Ok(inbox) = Inbox::new(self.alloc) else {
+            return Ended::Memory;
+        };
+        let mut rooms = Rooms {
+            inbox,
+            bodies: BodyRoom::new(),
+            replies: ReplyRoom::new(self.alloc),
+        };
+        for place in 1..MOST_FRAMES + 1 {
+            if let Some(ended) = self.serve_next(seat, conn, clock, link, &mut rooms, place) {
+                return ended;
+            }
+        }
+        Ended::Closed
     }
 }
 
@@ -249,7 +315,7 @@ where
         let new = outside (X.left conn.new)
         (sink_told (X.written conn.new) (X.puts conn.new)) (C.readings clock.new)
         (link_told (L.exchanges link.new) (L.faults link.new)) in
-        Serves D.grown seat.old seat.new old new result }
+        Serves plainly D.grown seat.old seat.new old new result }
 
     // A fault is answered where the connection failed in this call, and only there.
     ensures reads { EndsByFault Ended.ReadFault result
@@ -260,26 +326,10 @@ where
     // A connection that borrows its sides still holds these.
     ensures holds { (X.kept_by_read conn.new).holds ≡ (X.kept_by_read conn.old).holds }
 {
-    let Ok(mut inbox) = Inbox::new(alloc) else {
-        return Ended::Memory;
+    let answerer = Answerer {
+        alloc,
+        desk,
+        replier: &Plainly,
     };
-    let mut bodies = BodyRoom::new();
-    let mut room = ReplyRoom::new(alloc);
-    for place in 1..MOST_FRAMES + 1 {
-        if let Some(ended) = serve_next(
-            alloc,
-            desk,
-            seat,
-            conn,
-            clock,
-            link,
-            &mut inbox,
-            &mut bodies,
-            &mut room,
-            place,
-        ) {
-            return ended;
-        }
-    }
-    Ended::Closed
+    answerer.serve(seat, conn, clock, link)
 }

@@ -1,37 +1,21 @@
 //! Replies, and their way into a connection.
-ghost use Rattle.std.specs.Prelude.{◌≡◌, ◌≢◌, ◌+◌, Ok, Err, IfOk, IfSome, OnOk, IsUtf8};
+ghost use Rattle.std.specs.Prelude.{◌≡◌, ◌≢◌, ◌+◌, Some, Err, IfOk, IfSome, OnOk, IsUtf8};
 ghost use Rattle.std.specs.Io.KnownBytes.{Appends};
 ghost use Rattle.m2m_io.specs.Counts.{CountsFault};
-ghost use Rattle.cse_server.specs.Outside.{link_told};
 ghost use Rattle.m2m_io.specs.Told.{AppendsPrefix, Tells};
-ghost use Rattle.primitive_json.specs.declared.request.RequestParts.{RequestParts};
-ghost use Rattle.http_binding.specs.Binding.{binding, echo_of};
+ghost use Rattle.http_binding.specs.Binding.{echo_of};
 ghost use Rattle.http_binding.specs.Replying.{reply_text};
-ghost use Rattle.cse_machine.specs.Answer.{starved};
 ghost use Rattle.cse_server.specs.Talk as spec;
-ghost use Rattle.cse_server.specs.Talk.{last_reply};
-ghost use Rattle.cse_server.specs.Way as way;
-ghost use Rattle.cse_server.specs.Way.{RepliesOver};
-ghost use Rattle.cse_server.specs.Replies.{RepliesOnward};
+ghost use Rattle.cse_server.specs.Talk.{last_reply, request_in};
 
-use cse_machine::Outcome;
+use desk_replies::bare_reply;
 use http_binding::{ReplyRoom, echo_id, write_reply_text};
-use http_forwarding::carry;
 use http_frames::{Frame, PutFault};
-use m2m_io::{Connection, Link};
+use m2m_io::Connection;
 use m2m_names::Rsc;
 use m2m_value::Text;
-use primitive_json::{Reply, ReplyParts, Request, RequestParts};
-use retarget::Url;
+use primitive_json::{Reply, Request};
 use std::alloc::{AllocError as OutOfMemory, Global};
-
-/// A reply without content, with the identifier of the request where one is known.
-pub fn bare_reply(rsc: Rsc, rqi: Option<Text>) -> Reply
-    requires { IfSome rqi IsUtf8 }
-    ensures { result ≡ record { rsc = rsc; rqi = rqi; pc = None } }
-{
-    Reply::of(ReplyParts { rsc, rqi, pc: None })
-}
 
 /// The identifier that the frame has, as a text of its own.
 fn echo_of(alloc: Global, frame: &Frame) -> Result<Option<Text>, OutOfMemory>
@@ -52,64 +36,16 @@ pub(crate) fn refusal_of(alloc: Global, frame: &Frame) -> Result<Reply, OutOfMem
     Ok(bare_reply(Rsc::BadRequest, rqi))
 }
 
-/// The reply to the request of a frame where memory ran out in its event.
-fn starved_reply(alloc: Global, frame: &Frame) -> Result<Reply, OutOfMemory>
-    ensures { (request : RequestParts) → binding frame.now ≡ Ok request
-        → IfOk result (λ r. r ≡ starved request) }
+/// The identifier of the request to which a frame binds.
+pub(crate) fn id_of<'f>(frame: &'f Frame, request: &Request) -> &'f [u8]
+    requires { request_in frame.now ≡ Some request.now }
+    ensures id { request.now.rqi ≡ result.now }
+    ensures text { IsUtf8 result.now }
 {
-    let rqi = echo_of(alloc, frame)?;
-    Ok(bare_reply(Rsc::Internal, rqi))
-}
-
-/// The reply that an outcome is, if it is one.
-fn reply_of(outcome: Outcome) -> Option<Reply>
-    ensures { result ≡ way.reply_of outcome }
-{
-    match outcome {
-        Outcome::Done(reply) => Some(reply),
-        _ => None,
-    }
-}
-
-/// The reply to a request for which memory ran out as it was carried. Takes no memory.
-fn uncarried_reply(request: Request) -> Reply
-    ensures { result ≡ starved request }
-{
-    let RequestParts { rqi, .. } = request.into_parts();
-    bare_reply(Rsc::Internal, Some(rqi))
-}
-
-/// The reply to a request that goes on to the CSE at a URL: the one that its exchange over the link
-/// gives, or that memory ran out.
-pub fn reply_onward<L: Link>(alloc: Global, link: &mut L, poa: &Url, request: Request) -> Reply
-    ensures { RepliesOnward poa.now request (link_told (L.exchanges link.old) (L.faults link.old))
-        (link_told (L.exchanges link.new) (L.faults link.new)) result }
-{
-    match carry(alloc, link, poa.entries(), &request) {
-        Ok(reply) => reply,
-        Err(_) => uncarried_reply(request),
-    }
-}
-
-/// The reply to the request of a frame by the outcome of its event. The link is for a request that
-/// goes on to another CSE.
-pub(crate) fn reply_by<L: Link>(
-    alloc: Global,
-    link: &mut L,
-    frame: &Frame,
-    outcome: Outcome,
-) -> Result<Reply, OutOfMemory>
-    ensures { (request : RequestParts) → binding frame.now ≡ Ok request
-        → RepliesOver request outcome (link_told (L.exchanges link.old) (L.faults link.old))
-        (link_told (L.exchanges link.new) (L.faults link.new)) result }
-{
-    match outcome {
-        Outcome::Forward { poa, request } => Ok(reply_onward(alloc, link, &poa, request)),
-        other => match reply_of(other) {
-            Some(reply) => Ok(reply),
-            None => starved_reply(alloc, frame),
-        },
-    }
+    let Some(id) = echo_id(frame) else {
+        unreachable!()
+    };
+    id
 }
 
 /// Writes a reply by one call of the connection. What is left to read stays as it is.

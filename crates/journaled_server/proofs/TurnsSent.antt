@@ -3,7 +3,7 @@ use denote.Param.Send.{IsSend, sendable}
 use denote.Param.SendFields.{declared_send, variants_send}
 use Rattle.std.proofs.Crossing.{crosses}
 use Rattle.notify_outbox.specs.contracts.item.Item as item
-use Rattle.cse_server.proofs.Sent.{event_send, note_send, outcome_send}
+use Rattle.desk_replies.proofs.Sent.{event_send, note_send, outcome_send}
 use Rattle.journal_events.specs.contracts.event.KeptEvent as event
 use Rattle.journal_events.specs.contracts.event.KeptOutcome as outcome
 use Rattle.kept_desk.specs.contracts.turn.Report as report

@@ -14,14 +14,13 @@ use Rattle.cse_machine.specs.declared.event.Event.{Event}
 use Rattle.cse_machine.specs.declared.event.Outcome.{Outcome}
 use Rattle.journal_events.specs.declared.event.KeptEvent.{KeptEvent}
 use Rattle.journal_events.specs.declared.event.KeptOutcome.{KeptOutcome}
-use Rattle.cse_server.specs.Attending.{ConnTold}
-use Rattle.cse_server.specs.Connection.{Serves}
-use Rattle.cse_server.specs.Outside.{EndsByFault, LinkTold, outside}
+use Rattle.desk_replies.specs.Asking.{Asked}
+use Rattle.cse_server.specs.Attending.{Attends, AttendsBy, ConnTold}
+use Rattle.cse_server.specs.Outside.{LinkTold}
 use Rattle.cse_server.specs.declared.bench.Bench.{Bench}
-use Rattle.cse_server.specs.declared.connection.Ended.TheVariants.{ReadFault, WriteFault}
+use Rattle.cse_server.specs.declared.binding.Attended.{Attended}
 use Rattle.journaled_server.specs.Plain.{PlainGrown}
 use Rattle.journaled_server.specs.Sending.{SendsThenTakes, sender}
-use Rattle.journaled_server.specs.declared.serving.Attended.{Attended}
 
 -- a seat of a shared desk of a kept object grew by these turns
 abbrev pub TurnsGrow : {X : Type 0} → DeskSeat X (Turn KeptEvent) (Report KeptOutcome)
@@ -36,21 +35,20 @@ abbrev pub AnswersGrown : {S : Type 0}
     → S → List (Marked Event Outcome) → S → Type 0
 AnswersGrown grown = PlainGrown (KeptGrown grown)
 
--- A connection came and was attended to at a seat, with what lies at a bench: it was served by what
--- may be answered, and ended so. A fault that ended it is one of the connection.
-pub record AttendsKept {S X C L : Type 0}
-    (grown : S → List (Marked (Turn KeptEvent) (Report KeptOutcome)) → S → Type 0)
-    (conn : X → ConnTold) (clock : C → Option (List ℕ)) (link : L → LinkTold)
-    (before : S) (came : X) (bench : Bench C L) (after : S) (attended : Attended X)
-    (left : Bench C L) : Type 0 where
-  pub serves : Serves (AnswersGrown grown) before after
-      (outside (conn came).left (conn came).out (clock bench.clock) (link bench.link))
-      (outside (conn attended.conn).left (conn attended.conn).out (clock left.clock)
-      (link left.link)) attended.ended
-  pub reads : EndsByFault ReadFault attended.ended
-      (conn came).read_faults (conn attended.conn).read_faults
-  pub writes : EndsByFault WriteFault attended.ended
-      (conn came).write_faults (conn attended.conn).write_faults
+-- A connection came and was attended to at a seat by a binding, with what lies at a bench: by what
+-- may be answered.
+abbrev pub AttendsKeptBy : {S X C L A : Type 0}
+    → (S → List (Marked (Turn KeptEvent) (Report KeptOutcome)) → S → Type 0)
+    → (X → Asked → A → Type 0) → (C → Option (List ℕ)) → (L → LinkTold)
+    → S → X → Bench C L → S → A → Bench C L → Type 0
+AttendsKeptBy grown talks clock link = AttendsBy (AnswersGrown grown) talks clock link
+
+-- So it was as HTTP, where nothing is asked behind a request.
+abbrev pub AttendsKept : {S X C L : Type 0}
+    → (S → List (Marked (Turn KeptEvent) (Report KeptOutcome)) → S → Type 0)
+    → (X → ConnTold) → (C → Option (List ℕ)) → (L → LinkTold)
+    → S → X → Bench C L → S → Attended X → Bench C L → Type 0
+AttendsKept grown conn clock link = Attends (AnswersGrown grown) conn clock link
 
 -- By one call of `send_kept` items that waited in an outbox were sent at a seat, with what lies at a
 -- bench, and behind each the seat said so. This came of it.

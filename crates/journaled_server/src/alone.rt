@@ -8,41 +8,50 @@ ghost use Rattle.journaled_server.specs.Sending.{SendsThenTakes, sender};
 ghost use Rattle.journaled_server.specs.Serving.{AnswersGrown};
 
 use crate::{LossSignal, PlainDesk, send_kept};
-use cse_server::{Ended, serve_connection};
+use cse_server::{Answerer, Ended};
+use desk_replies::Replier;
 use journal_events::{KeptEvent, KeptOutcome};
 use kept_desk::{KeptDesk, Report, Turn};
 use m2m_io::{Clock, Connection, Link};
 use std::alloc::{AllocError as OutOfMemory, Global};
 use turn_desk::{Object, OwnDesk, OwnSeat};
 
-/// Serves one connection, as `serve_connection` of the crate cse_server does, at a seat that holds
-/// an object which is kept.
-pub fn serve_kept_alone<O, X, C, L>(
+/// Serves one connection, as `serve_alone` of the crate cse_server does, at a seat that holds
+/// an object which is kept, by what the replier makes of the answers.
+pub fn serve_kept_alone<O, X, C, L, W>(
     alloc: Global,
     seat: &mut OwnSeat<O>,
     conn: &mut X,
     clock: &mut C,
     link: &mut L,
+    replier: &W,
 ) -> Ended
 where
     O: Object<Event = Turn<KeptEvent>, Outcome = Report<KeptOutcome>>,
     X: Connection,
     C: Clock,
     L: Link,
+    W: Replier,
     ensures serves { let old = outside (X.left conn.old)
         (sink_told (X.written conn.old) (X.puts conn.old)) (C.readings clock.old)
         (link_told (L.exchanges link.old) (L.faults link.old)) in
         let new = outside (X.left conn.new)
         (sink_told (X.written conn.new) (X.puts conn.new)) (C.readings clock.new)
         (link_told (L.exchanges link.new) (L.faults link.new)) in
-        Serves (AnswersGrown (IsOwnRun O.step)) seat.old seat.new old new result }
+        Serves (W.rule replier.now) (AnswersGrown (IsOwnRun O.step)) seat.old seat.new old new
+        result }
     ensures holds { (X.kept_by_read conn.new).holds ≡ (X.kept_by_read conn.old).holds }
 {
     let losses = LossSignal::new();
     let desk = OwnDesk::new();
     let kept = KeptDesk::new(&desk);
     let plain = PlainDesk::new(&kept, &losses);
-    serve_connection(alloc, &plain, seat, conn, clock, link)
+    let answerer = Answerer {
+        alloc,
+        desk: &plain,
+        replier,
+    };
+    answerer.serve(seat, conn, clock, link)
 }
 
 /// Sends the items of the outbox of an object that is kept, as `send_kept` does, at a seat that

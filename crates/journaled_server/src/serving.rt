@@ -1,7 +1,7 @@
 //! A server of a kept object: many connections, answered out of one that all share.
 ghost use Rattle.std.specs.Prelude.{◌≤◌, vec_len};
-ghost use Rattle.cse_server.specs.Attending.{conn_tells, link_tells};
-ghost use Rattle.journaled_server.specs.Serving.{AttendsKept, SendsKept, TurnsGrow};
+ghost use Rattle.cse_server.specs.Attending.{link_tells};
+ghost use Rattle.journaled_server.specs.Serving.{AttendsKeptBy, SendsKept, TurnsGrow};
 ghost use Rattle.turn_desk.specs.Seats.{IsSeated};
 ghost use Rattle.workers.specs.Gate.{door_tells};
 ghost use Rattle.workers.specs.Serving.{EndsServing};
@@ -9,11 +9,12 @@ ghost use Rattle.workers.specs.Serving.{EndsServing};
 use crate::{LossSignal, PlainDesk, send_kept};
 use change_signal::{ChangeSignal, SignallingDesk, Watch};
 use cse_machine::Event;
-use cse_server::{Bench, Ended, serve_connection};
+use cse_server::Bench;
+use desk_replies::Binding;
 use gathering_desk::{Gathering, GatheringDesk};
 use journal_events::{KeptEvent, KeptOutcome};
 use kept_desk::{KeptDesk, Report, Turn};
-use m2m_io::{Clock, Connection, Door, Link};
+use m2m_io::{Clock, Door, Link};
 use primitive_json::retrieves;
 use std::alloc::Global;
 use std::sync::Wait;
@@ -48,27 +49,22 @@ impl Watch<KeptEvent> for OfRequests {
     }
 }
 
-/// A connection that was attended to, and how it ended. Attending alone makes one.
-#[derive(Drop)]
-pub(crate) struct Attended<X> {
-    conn: X,
-    ended: Ended,
-}
-
-/// Attends to a connection as HTTP, at a desk that gives no answer before it is kept.
-struct KeptService<'a, R> {
+/// Attends to connections by a binding, at a desk that gives no answer before it is kept.
+struct KeptAttendant<'a, R, P> {
     rt: &'a R,
     alloc: Global,
+    binding: &'a P,
     changes: &'a ChangeSignal,
     losses: &'a LossSignal,
     gathering: &'a Gathering,
 }
 
-impl<R> Drop for KeptService<'_, R> {
+impl<R, P> Drop for KeptAttendant<'_, R, P> {
     fn drop(self) {
-        let KeptService {
+        let KeptAttendant {
             rt: _,
             alloc: _,
+            binding: _,
             changes: _,
             losses: _,
             gathering: _,
@@ -76,35 +72,28 @@ impl<R> Drop for KeptService<'_, R> {
     }
 }
 
-impl<R, K, X, C, L> Service<K, X, Bench<C, L>, Attended<X>> for KeptService<'_, R>
+impl<R, K, X, C, L, A, P> Service<K, X, Bench<C, L>, A> for KeptAttendant<'_, R, P>
 where
     R: Wait,
     K: Desk<Event = Turn<KeptEvent>, Outcome = Report<KeptOutcome>>,
-    X: Connection + Drop,
     C: Clock,
     L: Link,
+    P: Binding<X, A>,
 {
-    ghost use Rattle.cse_server.specs.Attending.{conn_tells, link_tells};
-    ghost use Rattle.journaled_server.specs.Serving.{AttendsKept};
+    ghost use Rattle.cse_server.specs.Attending.{link_tells};
+    ghost use Rattle.journaled_server.specs.Serving.{AttendsKeptBy};
 
-    ghost attends = { AttendsKept K.grown
-        (conn_tells X.left X.written X.puts X.Source.faults X.Sink.faults)
-        C.readings (link_tells L.exchanges L.faults) };
+    ghost attends = { λ service. AttendsKeptBy K.grown (P.talks service.binding.now) C.readings
+        (link_tells L.exchanges L.faults) };
 
-    fn attend(
-        &self,
-        desk: &K,
-        seat: &mut K::Seat,
-        mut conn: X,
-        bench: &mut Bench<C, L>,
-    ) -> Attended<X> {
+    fn attend(&self, desk: &K, seat: &mut K::Seat, conn: X, bench: &mut Bench<C, L>) -> A {
         let Bench { clock, link } = bench;
         let gathered = GatheringDesk::new(desk, self.gathering, self.rt, OfRequests);
         let kept = KeptDesk::new(&gathered);
         let plain = PlainDesk::new(&kept, self.losses);
         let asked = SignallingDesk::new(&plain, self.changes, OfRequests);
-        let ended = serve_connection(self.alloc, &asked, seat, &mut conn, clock, link);
-        Attended { conn, ended }
+        self.binding
+            .attend(self.alloc, &asked, seat, conn, clock, link)
     }
 }
 
@@ -156,10 +145,10 @@ where
     }
 }
 
-/// Serves the connections of a door at a desk of a kept object, as `serve` of the crate cse_server
-/// does at one of the machine's: no answer is given before what it tells is kept. Where an answer
-/// is lost, the signal is raised.
-pub fn serve_journaled<R, O, D, C, L>(
+/// Serves the connections of a door at a desk of a kept object, as `serve_by` of the crate
+/// cse_server does at one of the machine's: no answer is given before what it tells is kept. Where
+/// an answer is lost, the signal is raised.
+pub fn serve_journaled<R, O, D, C, L, A, P>(
     rt: &R,
     alloc: Global,
     desk: &TurnDesk<O, R>,
@@ -169,6 +158,7 @@ pub fn serve_journaled<R, O, D, C, L>(
     losses: &LossSignal,
     first: &mut Bench<C, L>,
     benches: Vec<Bench<C, L>>,
+    binding: &P,
 ) -> Result<(DeskSeat<O>, D), (DeskSeat<O>, D, ServeFault)>
 where
     R: Wait + Threads + Sync,
@@ -176,14 +166,15 @@ where
     D: Door + Send,
     C: Clock + Send + Drop,
     L: Link + Send + Drop,
+    A: Drop + Send,
+    P: Binding<D::Conn, A> + Sync,
     requires benches { 2 ≤ vec_len benches }
     requires seat { IsSeated O.step desk.now.table.shared.table_id seat }
 
-    // As of `serve`, with the turns of a kept object as entries: each connection was answered with
-    // exactly the replies that the answers give which the desk may give.
-    ensures ends { let attends = AttendsKept TurnsGrow
-        (conn_tells D.Conn.left D.Conn.written D.Conn.puts D.Conn.Source.faults
-        D.Conn.Sink.faults) C.readings (link_tells L.exchanges L.faults) in
+    // As of `serve_by`, with the turns of a kept object as entries: each connection was attended to
+    // by the answers which the desk may give.
+    ensures ends { let attends = AttendsKeptBy TurnsGrow (P.talks binding.now) C.readings
+        (link_tells L.exchanges L.faults) in
         let sends = SendsKept TurnsGrow C.readings (link_tells L.exchanges L.faults) in
         EndsServing O.step desk.now.table.shared.table_id
         (door_tells D.opened D.given D.ended D.faults) attends sends accept benches.items
@@ -191,9 +182,10 @@ where
 {
     let changes = ChangeSignal::new();
     let gathering = Gathering::new();
-    let service = KeptService {
+    let attendant = KeptAttendant {
         rt,
         alloc,
+        binding,
         changes: &changes,
         losses,
         gathering: &gathering,
@@ -205,7 +197,7 @@ where
         losses,
         gathering: &gathering,
     };
-    serve_with::<R, O, D, Bench<C, L>, Attended<D::Conn>, KeptService<'_, R>, KeptSender<'_, R>>(
-        rt, alloc, desk, seat, door, accept, first, benches, &service, &sender,
+    serve_with::<R, O, D, Bench<C, L>, A, KeptAttendant<'_, R, P>, KeptSender<'_, R>>(
+        rt, alloc, desk, seat, door, accept, first, benches, &attendant, &sender,
     )
 }

@@ -3,7 +3,7 @@ use Rattle.machine_laws.proofs.Words.{◌≡◌, ℕ, List, [], ◌∷◌, Bool,
 use Rattle.machine_laws.proofs.Terms.{readings_of, events_of, outcomes_of, RequestParts, HomeData, EntityData, EventEffect, swept, IsSoundEntity, Event, Ask, Take, Tick, Outcome, Done, Forward, Item, Ticked, Starved, ComesOf, effect_of, History, HistoryLeaves, IsDone, Step, address_of, named_here, spot_of, Addr, Local, Foreign, OtherProvider, AddrFault, Spot, Resource, Fan, Poll, Op, ResourceData}
 use Rattle.machine_laws.proofs.Facts.{and_parts, both_ways, or_parts, All-head, All-tail}
 use Rattle.std.specs.Prelude.{Option, Some, None, Result, Ok, Err}
-use Rattle.machine_laws.specs.Sight.{EqualSightsAnswerAlike, EqualSightsKeepOneShape, EqualSightsStayAlike, EqualSightsStayEqual, HaveAnswersOf, IsBy, IsRequestBy, are_calm_but_last, does_event_poll, does_poll, is_calm, is_calm_event, is_poll, is_poll_point, is_polling, names_poll, polls_at, shape, sight}
+use Rattle.machine_laws.specs.Sight.{EqualSightsAnswerAlike, EqualSightsKeepOneShape, EqualSightsStayAlike, EqualSightsStayEqual, HaveAnswersOf, IsBy, IsRequestBy, NonePolls, WithoutTheSegmentNonePolls, are_calm_but_last, does_event_poll, does_poll, is_calm, is_calm_event, is_poll, is_poll_point, is_polling_event, names_poll, polls_at, shape, sight}
 use Rattle.guard_laws.proofs.HistoryLemmas.{none_some, same_entity, same_first, same_rest, sound_step}
 use Rattle.machine_laws.proofs.PollSightLemmas.{poll_named}
 use Rattle.machine_laws.proofs.ShapeLemmas.{one_shape}
@@ -172,12 +172,6 @@ stay_alike left right after other o history twin sound sounds same leaves others
 
 -- ---- where no address has the segment of a poll point
 
--- the event is no Retrieve of such an address
-abbrev pub is_polling_event : HomeData → Event → Bool
-is_polling_event home (Ask request) = is_polling home request
-is_polling_event home Take = false
-is_polling_event home Tick = false
-
 point_named : (segments : List (List ℕ)) (nodes : List ResourceData) (spot : Option Spot) → spot_of segments nodes ≡ spot → is_poll_point spot ≡ true → names_poll (Ok (Local segments)) ≡ true
 point_named segments nodes None is point = absurd (both_ways _ refl point)
 point_named segments nodes (Some (Resource n)) is point = absurd (both_ways _ refl point)
@@ -204,15 +198,26 @@ unpolled reading e (Ask request) none = no_poll_at request.op (swept reading e).
 unpolled reading e Take none = refl
 unpolled reading e Tick none = refl
 
--- so all outcomes are the same
-pub same_outcomes : (history twin : History) (left after : EntityData) (leaves : HistoryLeaves left history after) → readings_of history ≡ readings_of twin → list_any (is_polling_event left.home) (events_of history) ≡ false → HaveAnswersOf left history after leaves twin → outcomes_of history ≡ outcomes_of twin
+-- so none of a history does
+none_in : (history : History) (left after : EntityData) (leaves : HistoryLeaves left history after) → list_any (is_polling_event left.home) (events_of history) ≡ false → NonePolls left history after leaves
+none_in [] left after leaves none = tt
+none_in (h ∷ history) left after leaves none =
+    let parts = or_parts (is_polling_event left.home h.event) (list_any (is_polling_event left.home) (events_of history)) none in
+    let home = (same_entity h.reading h.event h.outcome left leaves.0 leaves.1).home in (
+      unpolled h.reading left h.event parts.0,
+      none_in history leaves.0 after leaves.2 (ap (λ (x : HomeData). list_any (is_polling_event x) (events_of history)) home ∙ parts.1),
+    )
+
+pub none_polls : WithoutTheSegmentNonePolls
+none_polls e after history leaves none = none_in history e after leaves none
+
+-- ---- where none polls
+
+-- all outcomes are the same
+pub same_outcomes : (history twin : History) (left after : EntityData) (leaves : HistoryLeaves left history after) → readings_of history ≡ readings_of twin → NonePolls left history after leaves → HaveAnswersOf left history after leaves twin → outcomes_of history ≡ outcomes_of twin
 same_outcomes [] [] left after leaves readings none answers = refl
 same_outcomes [] (t ∷ twin) left after leaves readings none answers = absurd (none_some t.reading (readings_of twin) readings)
 same_outcomes (h ∷ history) [] left after leaves readings none answers = absurd (none_some h.reading (readings_of history) (sym readings))
 same_outcomes (h ∷ history) (t ∷ twin) left after leaves readings none answers =
-    let parts = or_parts (is_polling_event left.home h.event) (list_any (is_polling_event left.home) (events_of history)) none in
-    let home = (same_entity h.reading h.event h.outcome left leaves.0 leaves.1).home in
-    let rest =
-    same_outcomes history twin leaves.0 after leaves.2 (same_rest h.reading t.reading (readings_of history) (readings_of twin) readings)
-    (ap (λ (x : HomeData). list_any (is_polling_event x) (events_of history)) home ∙ parts.1) answers.1 in
-    ap (λ (out : Outcome). out ∷ outcomes_of history) (answers.0 (unpolled h.reading left h.event parts.0)) ∙ ap (λ (os : List Outcome). t.outcome ∷ os) rest
+    let rest = same_outcomes history twin leaves.0 after leaves.2 (same_rest h.reading t.reading (readings_of history) (readings_of twin) readings) none.1 answers.1 in
+    ap (λ (out : Outcome). out ∷ outcomes_of history) (answers.0 none.0) ∙ ap (λ (os : List Outcome). t.outcome ∷ os) rest

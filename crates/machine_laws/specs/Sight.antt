@@ -178,6 +178,29 @@ does_event_poll e (Ask request) = is_poll e request
 does_event_poll e Take = false
 does_event_poll e Tick = false
 
+-- no event of a history polls the entity that it finds
+abbrev pub NonePolls :
+    (e : EntityData) (history : History) (after : EntityData) → HistoryLeaves e history after
+    → Type 0
+NonePolls e [] after leaves = ⊤
+NonePolls e (h ∷ history) after leaves =
+    (does_event_poll (swept h.reading e) h.event ≡ false)
+    × NonePolls leaves.0 history after leaves.2
+
+-- the event is a Retrieve of an address that has the segment of a poll point
+abbrev pub is_polling_event : HomeData → Event → Bool
+is_polling_event home (Ask request) = is_polling home request
+is_polling_event home Take = false
+is_polling_event home Tick = false
+
+-- Where no Retrieve of a history has an address with the segment of a poll point, none of its events
+-- polls.
+abbrev pub WithoutTheSegmentNonePolls : Type 0
+WithoutTheSegmentNonePolls =
+    (e after : EntityData) (history : History) (leaves : HistoryLeaves e history after)
+    → list_any (is_polling_event e.home) (events_of history) ≡ false
+    → NonePolls e history after leaves
+
 -- The entries of two histories have the same outcomes, one after another, but for those that poll.
 abbrev pub HaveAnswersOf :
     (e : EntityData) (history : History) (after : EntityData) → HistoryLeaves e history after

@@ -10,7 +10,7 @@ ghost use Rattle.machine_laws.specs.Outbox.{OutboxesAreAccounted};
 ghost use Rattle.machine_laws.specs.Sight.{IsAnsweredBySight, EqualSightsAnswerAlike};
 ghost use Rattle.machine_laws.specs.Sight.{EqualSightsHaveOneShape, EqualSightsKeepOneShape};
 ghost use Rattle.machine_laws.specs.Sight.{EqualSightsStayAlike, EqualSightsStayEqual};
-ghost use Rattle.machine_laws.specs.Sight.{SightHasItsShape};
+ghost use Rattle.machine_laws.specs.Sight.{SightHasItsShape, WithoutTheSegmentNonePolls};
 
 /// The outcome of a request, but of a Create, an Update or a poll, is a function of what its
 /// originator sees of the entity, of the reading and of the request.
@@ -30,6 +30,12 @@ pub fn equal_sights_are_answered_alike()
     ensures seen { EqualSightsStayEqual }
     ensures shaped { EqualSightsKeepOneShape }
     ensures histories { EqualSightsStayAlike }
+{}
+
+/// A poll has the segment of a poll point in its address. So in a history in which no Retrieve has
+/// such an address, nothing polls.
+pub fn a_poll_has_the_segment_of_a_poll_point()
+    ensures { WithoutTheSegmentNonePolls }
 {}
 
 /// What an originator sees of a sound entity has the shape of that entity, by which it is judged;

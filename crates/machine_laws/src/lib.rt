@@ -19,9 +19,10 @@ mod laws;
 mod resolving;
 
 pub use laws::{
-    a_retrieve_is_refused_in_order, a_sight_has_the_shape_of_its_entity,
-    a_step_changes_what_is_asked_alone, an_originator_is_answered_by_what_it_sees,
-    equal_sights_are_answered_alike, the_outbox_holds_what_was_appended,
-    what_is_of_its_kinds_has_the_form, what_may_be_served_is_served,
+    a_poll_has_the_segment_of_a_poll_point, a_retrieve_is_refused_in_order,
+    a_sight_has_the_shape_of_its_entity, a_step_changes_what_is_asked_alone,
+    an_originator_is_answered_by_what_it_sees, equal_sights_are_answered_alike,
+    the_outbox_holds_what_was_appended, what_is_of_its_kinds_has_the_form,
+    what_may_be_served_is_served,
 };
 pub use resolving::resolve_by_index;

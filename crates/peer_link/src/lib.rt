@@ -4,7 +4,7 @@
 //!
 //! Callers see the entity behind the link, its clock, the exchanges, and those that are to fail
 //! (`PeerLink`), and of an answer that it is the talk of that entity with the request's bytes
-//! (`specs/PeerTalk`).
+//! (`specs/PeerTalk`), in which nothing went on.
 //!
 //! ```text
 //! let clock = MemClock::new(readings);
@@ -15,5 +15,6 @@
 
 mod conn;
 mod link;
+mod nowhere;
 
 pub use link::PeerLink;

@@ -5,12 +5,14 @@ ghost use Rattle.m2m_io.specs.declared.fault.LinkFault.TheVariants.{Failed as fa
 ghost use Rattle.m2m_io.specs.declared.fault.LinkFault.TheVariants.{OutOfMemory as starved};
 ghost use Rattle.m2m_io.specs.Counts.{CountsFault, fails_next, no_calls};
 ghost use Rattle.m2m_io.specs.Link.{TellsAnswer, TellsExchange, calls_after};
-ghost use Rattle.peer_link.specs.PeerTalk.{AnswersTalking, PeerTalks};
+ghost use Rattle.peer_link.specs.PeerTalk.{AnswersTalking, TalksAlone};
 
 use crate::conn::MemPair;
+use crate::nowhere::Nowhere;
 use cse_server::{Ended, Served, serve_alone};
+use desk_replies::Plainly;
 use entity_model::Entity;
-use m2m_io::{Calls, Clock, Exchanges, Link, LinkFault, MemLink, MemSink};
+use m2m_io::{Calls, Clock, Exchanges, Link, LinkFault, MemSink};
 use std::alloc::{AllocError as OutOfMemory, Global};
 use tree_model::Tree;
 use turn_desk::OwnSeat;
@@ -28,19 +30,24 @@ pub struct PeerLink<T: Tree, C: Clock> {
     pub told: Exchanges,
 }
 
-/// What an entity writes to these bytes, which it serves as one connection.
+/// What an entity writes to these bytes, which it serves as one connection. Nothing goes on from
+/// it.
 fn talk<T: Tree, C: Clock>(
     alloc: Global,
     seat: &mut OwnSeat<Served<T>>,
     clock: &mut C,
     bytes: &[u8],
 ) -> Result<MemSink, OutOfMemory>
-    ensures { IfOk result (λ out. PeerTalks seat.old seat.new
+    ensures { IfOk result (λ out. TalksAlone seat.old seat.new
         (C.readings clock.old) (C.readings clock.new) bytes.now out.written) }
 {
     let mut conn = MemPair::new(alloc, Vec::from_slice(alloc, bytes)?);
-    let mut none = MemLink::new(Vec::new(alloc), Vec::new(alloc));
-    match serve_alone(alloc, seat, &mut conn, clock, &mut none) {
+    let mut nowhere = Nowhere::new(alloc);
+    let ended = serve_alone(alloc, seat, &mut conn, clock, &mut nowhere, &Plainly);
+    if !nowhere.tells() {
+        return Err(OutOfMemory);
+    }
+    match ended {
         Ended::Closed | Ended::NoFrame => Ok(conn.out),
         Ended::ReadFault | Ended::WriteFault | Ended::Memory => Err(OutOfMemory),
     }

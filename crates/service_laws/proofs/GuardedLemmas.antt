@@ -64,8 +64,8 @@ guarded_in_run (m ∷ mine) opening after (r ∷ earlier) later request (o ∷ b
     )
 
 pub serves_guarded : ServesGuarded
-serves_guarded opening after old new ended served earlier later request before behind reply sound requests outcomes same =
-    let asked = served.asks.asked in
+serves_guarded rule opening after old new ended served earlier later request before behind reply sound requests outcomes same =
+    let asked = served.asks.asks in
     let found =
     guarded_in_run asked.mine opening after earlier later request before behind reply sound (Grew-runs Step asked.grew)
     (asked.events_are ∙ ap (map Ask) requests) (asked.outcomes_are ∙ outcomes) same in

@@ -1,18 +1,20 @@
 -- A stream is answered in one way.
 use Rattle.service_laws.proofs.Words.{◌≡◌, ◌≢◌, ℕ, ◌+◌, Bool, true, false, List, [], ◌∷◌, ◌++◌, map, Option, Some, IsTrue, inl, inr, refl, sym, ap, subst, ◌∙◌, arith, All, list_all, list_any}
-use Rattle.service_laws.proofs.Terms.{ReplyParts, sink_told, readings_of, events_of, outcomes_of, Frame, Request, BeginsWithFrames, BeginsWithFrame, HasNoFrame, EntityData, Event, Ask, Outcome, History, IsDone, Step, Ended, Closed, NoFrame, ReadFault, WriteFault, Memory, closes, requests_in, talk, some_closes, ends_at_close, RefusesRightly, EndsRightly, Says, AsksFrames, GivesReplies}
+use Rattle.service_laws.proofs.Terms.{ReplyParts, sink_told, readings_of, events_of, outcomes_of, Frame, Request, BeginsWithFrames, BeginsWithFrame, HasNoFrame, EntityData, Event, Ask, Outcome, History, IsDone, Step, Ended, Closed, NoFrame, ReadFault, WriteFault, Memory, closes, requests_in, talk, some_closes, ends_at_close, RefusesRightly, EndsRightly, Says, GivesReplies}
 use Rattle.service_laws.proofs.Facts.{cases_Bool, true≢false, false≢true, append_cancel_left, All-map, Grew-runs, one_way}
 use Rattle.std.specs.Prelude.{◌||◌}
 use Rattle.turn_desk.specs.Growth.{IsOwnRun}
 use Rattle.http_frames.proofs.FrameLemmas.{BeginsWith_unique}
 use Rattle.http_frames.proofs.InboxLemmas.{none_within}
 use Rattle.http_frames.proofs.LookLemmas.{some_bytes}
-use Rattle.machine_laws.specs.Sight.{IsBy, are_calm_but_last, is_calm_event, is_polling}
-use Rattle.machine_laws.proofs.AlikeLemmas.{is_polling_event, same_outcomes, stayed_alike}
+use Rattle.machine_laws.specs.Sight.{IsBy, are_calm_but_last, is_calm_event, is_polling, is_polling_event}
+use Rattle.machine_laws.proofs.AlikeLemmas.{none_polls, same_outcomes, stayed_alike}
 use Rattle.resource_model.specs.Home.{HomeData}
 use Rattle.primitive_json.specs.declared.request.RequestParts.{RequestParts}
-use Rattle.service_laws.specs.Laws.{IsFaultless, ServesBoth, AreServedAlike, IsAnsweredInOneWay, EqualSightsAreServedAlike}
+use Rattle.service_laws.specs.Laws.{IsFaultless, ServesBoth, AreServedAlike, IsAnsweredInOneWay, EqualSightsAreServedAlike, WithoutTheSegmentNonePolled}
 use Rattle.service_laws.proofs.CarriedLemmas.{replies_alike}
+use Rattle.desk_replies.specs.Asking.{HasAsked}
+use Rattle.desk_replies.proofs.PlainLemmas.{plain_asked}
 
 -- ---- where a stream ends
 
@@ -135,58 +137,78 @@ all_done mine outcomes same done = subst (λ (os : List Outcome). All IsDone os)
 
 -- Two connections with one stream, at the same readings, that ended whole.
 module _ (left right after other : EntityData) (both : ServesBoth left right after other) where
-  abbrev one : AsksFrames (IsOwnRun Step) left after (Some both.given) (Some both.told) both.link both.link_now both.first.heard
+  abbrev one : HasAsked (IsOwnRun Step) left after (Some both.given) (Some both.told) both.link both.link_now both.first.asked
   one = both.first.asks
 
-  abbrev two : AsksFrames (IsOwnRun Step) right other (Some both.given) (Some both.told) both.other_link both.other_link_now both.second.heard
+  abbrev two : HasAsked (IsOwnRun Step) right other (Some both.given) (Some both.told) both.other_link both.other_link_now both.second.asked
   two = both.second.asks
 
-  both_heard : (both.first.heard ≡ both.second.heard) × (both.first.refused ≡ both.second.refused) × (both.ended ≡ both.end)
+  -- what was asked is what was heard
+  abbrev first_asked : (both.first.asked.requests ≡ requests_in both.first.talks.heard) × (both.first.asked.replies ≡ both.first.talks.answers.replies)
+  first_asked = plain_asked (requests_in both.first.talks.heard) both.first.asked both.first.talks.answers
+
+  abbrev second_asked : (both.second.asked.requests ≡ requests_in both.second.talks.heard) × (both.second.asked.replies ≡ both.second.talks.answers.replies)
+  second_asked = plain_asked (requests_in both.second.talks.heard) both.second.asked both.second.talks.answers
+
+  both_heard : (both.first.talks.heard ≡ both.second.talks.heard) × (both.first.talks.refused ≡ both.second.talks.refused) × (both.ended ≡ both.end)
   both_heard =
-      let s = both.first.stream in
-      let t = both.second.stream in
-      heard_one_way both.first.heard both.second.heard 1 both.ended both.end both.first.refused both.second.refused both.stream s.0 t.0 s.1 t.1 both.first.up_to both.second.up_to
-      (settles 1 both.ended both.first.refused both.first.heard s.0 both.rest both.whole s.2 s.3)
-      (settles 1 both.end both.second.refused both.second.heard t.0 both.other_rest both.wholes t.2 t.3)
+      let first = both.first.talks in
+      let second = both.second.talks in
+      let s = first.stream in
+      let t = second.stream in
+      heard_one_way first.heard second.heard 1 both.ended both.end first.refused second.refused both.stream s.0 t.0 s.1 t.1 first.up_to second.up_to
+      (settles 1 both.ended first.refused first.heard s.0 both.rest both.whole s.2 s.3)
+      (settles 1 both.end second.refused second.heard t.0 both.other_rest both.wholes t.2 t.3)
 
-  same_readings : readings_of one.asked.mine ≡ readings_of two.asked.mine
+  same_requests : both.first.asked.requests ≡ both.second.asked.requests
+  same_requests = first_asked.0 ∙ ap (λ fs. requests_in fs) both_heard.0 ∙ sym second_asked.0
+
+  same_readings : readings_of one.asks.mine ≡ readings_of two.asks.mine
   same_readings =
-      one.asked.readings_are ∙ append_cancel_left both.given one.readings two.readings (sym one.clock ∙ two.clock)
-      ∙ sym two.asked.readings_are
+      one.asks.readings_are ∙ append_cancel_left both.given one.readings two.readings (sym one.clock ∙ two.clock)
+      ∙ sym two.asks.readings_are
 
-  same_events : events_of one.asked.mine ≡ events_of two.asked.mine
-  same_events = one.asked.events_are ∙ ap (λ fs. map Ask (requests_in fs)) both_heard.0 ∙ sym two.asked.events_are
+  same_events : events_of one.asks.mine ≡ events_of two.asks.mine
+  same_events = one.asks.events_are ∙ ap (map Ask) same_requests ∙ sym two.asks.events_are
 
   -- where the outcomes are the same, so are the replies and what was carried
-  same_replies : outcomes_of one.asked.mine ≡ outcomes_of two.asked.mine → (one.replies ≡ two.replies) × (one.carried ≡ two.carried)
-  same_replies outcomes =
-      let os : one.outcomes ≡ two.outcomes = sym one.asked.outcomes_are ∙ outcomes ∙ two.asked.outcomes_are in
-      replies_alike (requests_in both.second.heard) two.outcomes one.replies two.replies one.carried two.carried
-      (subst (λ (v : List Outcome). GivesReplies (requests_in both.second.heard) v one.replies one.carried) os
-      (subst (λ (fs : List Frame). GivesReplies (requests_in fs) one.outcomes one.replies one.carried) both_heard.0 one.gives))
+  same_answers : outcomes_of one.asks.mine ≡ outcomes_of two.asks.mine
+      → (both.first.asked.replies ≡ both.second.asked.replies) × (both.first.asked.carried ≡ both.second.asked.carried)
+  same_answers outcomes =
+      let a = both.first.asked in
+      let b = both.second.asked in
+      let os : a.outcomes ≡ b.outcomes = sym one.asks.outcomes_are ∙ outcomes ∙ two.asks.outcomes_are in
+      replies_alike b.requests b.outcomes a.replies b.replies a.carried b.carried
+      (subst (λ (v : List Outcome). GivesReplies b.requests v a.replies a.carried) os
+      (subst (λ (rs : List RequestParts). GivesReplies rs a.outcomes a.replies a.carried) same_requests one.gives))
       two.gives both.carried both.carries both.links
 
+  same_replies : outcomes_of one.asks.mine ≡ outcomes_of two.asks.mine → both.first.talks.answers.replies ≡ both.second.talks.answers.replies
+  same_replies outcomes = sym first_asked.1 ∙ (same_answers outcomes).0 ∙ second_asked.1
+
   -- and what is written
-  same_bytes : outcomes_of one.asked.mine ≡ outcomes_of two.asked.mine → both.new ≡ both.twin
+  same_bytes : outcomes_of one.asks.mine ≡ outcomes_of two.asks.mine → both.new ≡ both.twin
   same_bytes outcomes =
-      said_whole both.ended both.old both.new _ _ _ both.puts both.puts_now both.whole both.first.said
-      ∙ ap (λ v. both.old ++ v) (talk_same 1 both.first.heard both.second.heard both.first.refused both.second.refused one.replies two.replies both_heard.0 both_heard.1
-      (same_replies outcomes).0)
-      ∙ sym (said_whole both.end both.old both.twin _ _ _ both.other_puts both.other_puts_now both.wholes both.second.said)
+      let first = both.first.talks in
+      let second = both.second.talks in
+      said_whole both.ended both.old both.new _ _ _ both.puts both.puts_now both.whole first.says
+      ∙ ap (λ v. both.old ++ v) (talk_same 1 first.heard second.heard first.refused second.refused first.answers.replies second.answers.replies both_heard.0 both_heard.1
+      (same_replies outcomes))
+      ∙ sym (said_whole both.end both.old both.twin _ _ _ both.other_puts both.other_puts_now both.wholes second.says)
 
-  served_same : outcomes_of one.asked.mine ≡ outcomes_of two.asked.mine → AreServedAlike both
-  served_same outcomes = (same_bytes outcomes, both_heard.2, (same_replies outcomes).1)
+  served_same : outcomes_of one.asks.mine ≡ outcomes_of two.asks.mine → AreServedAlike both
+  served_same outcomes = (same_bytes outcomes, both_heard.2, (same_answers outcomes).1)
 
-  all_first : All IsDone (outcomes_of one.asked.mine)
-  all_first = all_done one.asked.mine one.outcomes one.asked.outcomes_are both.done
+  all_first : All IsDone (outcomes_of one.asks.mine)
+  all_first = all_done one.asks.mine both.first.asked.outcomes one.asks.outcomes_are both.done
 
-  all_second : All IsDone (outcomes_of two.asked.mine)
-  all_second = all_done two.asked.mine two.outcomes two.asked.outcomes_are both.dones
+  all_second : All IsDone (outcomes_of two.asks.mine)
+  all_second = all_done two.asks.mine both.second.asked.outcomes two.asks.outcomes_are both.dones
 
 pub answered_in_one_way : IsAnsweredInOneWay
 answered_in_one_way opening after other both =
-    let one = both.first.asks.asked in
-    let two = both.second.asks.asked in
+    let one = both.first.asks.asks in
+    let two = both.second.asks.asks in
     let way =
     one_way one.mine two.mine opening after other (Grew-runs Step one.grew) (Grew-runs Step two.grew)
     (same_readings opening opening after other both) (same_events opening opening after other both)
@@ -199,18 +221,36 @@ none_asked : (home : HomeData) (requests : List RequestParts) → list_any (is_p
 none_asked home [] = refl
 none_asked home (request ∷ requests) = ap (λ (b : Bool). is_polling home request || b) (none_asked home requests)
 
+pub none_polled : WithoutTheSegmentNonePolled
+none_polled opening after old new ended served none =
+    let requests = requests_in served.talks.heard in
+    let one = served.asks.asks in
+    let ran = Grew-runs Step one.grew in
+    let asked = (plain_asked requests served.asked served.talks.answers).0 in
+    record {
+      history = one.mine;
+      leaves = ran;
+      readings_are = one.readings_are;
+      events_are = one.events_are;
+      outcomes_are = one.outcomes_are;
+      none = none_polls opening after one.mine ran
+          (ap (list_any (is_polling_event opening.home)) (one.events_are ∙ ap (map Ask) asked) ∙ none_asked opening.home requests ∙ none);
+    }
+
 pub served_alike : EqualSightsAreServedAlike
 served_alike left right after other o both sound sounds same by none calm =
-    let one = both.first.asks.asked in
-    let two = both.second.asks.asked in
-    let ran = Grew-runs Step one.grew in
+    let requests = requests_in both.first.talks.heard in
+    let one = both.first.asks.asks in
+    let two = both.second.asks.asks in
+    let asked = (plain_asked requests both.first.asked both.first.talks.answers).0 in
+    let events : events_of none.history ≡ map Ask requests = none.events_are ∙ ap (map Ask) asked in
+    let read : readings_of none.history ≡ readings_of two.mine = none.readings_are ∙ sym one.readings_are ∙ same_readings left right after other both in
     let way =
-    stayed_alike one.mine two.mine o left right after other sound sounds same ran (Grew-runs Step two.grew)
-    (same_readings left right after other both) (same_events left right after other both)
-    (subst (λ (es : List Event). All (IsBy left.home o) es) (sym one.events_are) (All-map (IsBy left.home o) Ask (requests_in both.first.heard) by))
-    (ap are_calm_but_last one.events_are ∙ calm)
-    (all_first left right after other both) (all_second left right after other both) in
-    let outcomes =
-    same_outcomes one.mine two.mine left after ran (same_readings left right after other both)
-    (ap (list_any (is_polling_event left.home)) one.events_are ∙ none_asked left.home (requests_in both.first.heard) ∙ none) way.answers in
-    (served_same left right after other both outcomes, λ all. way.seen (ap (list_all is_calm_event) one.events_are ∙ all), way.shaped)
+    stayed_alike none.history two.mine o left right after other sound sounds same none.leaves (Grew-runs Step two.grew)
+    read (none.events_are ∙ sym one.events_are ∙ same_events left right after other both)
+    (subst (λ (es : List Event). All (IsBy left.home o) es) (sym events) (All-map (IsBy left.home o) Ask requests by))
+    (ap are_calm_but_last events ∙ calm)
+    (all_done none.history both.first.asked.outcomes none.outcomes_are both.done) (all_second left right after other both) in
+    let outcomes : outcomes_of one.mine ≡ outcomes_of two.mine =
+    one.outcomes_are ∙ sym none.outcomes_are ∙ same_outcomes none.history two.mine left after none.leaves read none.none way.answers in
+    (served_same left right after other both outcomes, λ all. way.seen (ap (list_all is_calm_event) events ∙ all), way.shaped)

@@ -370,7 +370,7 @@ pub goes_on_answered : WhatGoesOnIsAnsweredThere
 goes_on_answered reading request before after url sent goes there left given now answer talks =
     let says = goes_on_said reading request before after url sent goes in
     let one = answered_there sent url there left given now answer says talks in
-    let once : AnswersOnce there left given now (record sent { fc = one.0 }) one.2 = one.3 in
+    let once : AnswersOnce there left given now talks.new.link (record sent { fc = one.0 }) one.2 = one.3 in
     let repeats = each_repeats once.reading (record sent { fc = one.0 }) there left once.outcome one.2 once.carried once.step once.gives in
     let kind = kind_repeated (record sent { fc = one.0 }) one.2 repeats (id_of_kind sent says.sendable.kinds.form) in (
       one.0,

@@ -1,7 +1,7 @@
 -- The answer of another CSE to one request.
-use Rattle.service_laws.proofs.Words.{◌≡◌, ◌≢◌, ◌≤◌, ℕ, true, false, List, [], ◌∷◌, ◌++◌, length, map, if◌then◌else◌, Option, Some, None, Result, Ok, Err, IfSome, IsTrue, ◌⊎◌, inl, inr, refl, sym, ap, subst, ◌∙◌, append-nil, arith, cons_option, list_any, result_ok}
-use Rattle.service_laws.proofs.Terms.{Carrying, ReplyParts, RequestParts, Runs, readings_of, events_of, outcomes_of, Frame, Request, BeginsWithFrame, BeginsWithFrames, HasNoFrame, reply_text, close_lines, content_lines, id_lines, request_frame, request_text, caller_lines, expiry_lines, host_field, origin_lines, host_of, Peer, Carried, handed_on, EntityData, History, Event, Ask, Outcome, Step, Ended, Closed, NoFrame, asks_by, asks_to_close, closes, Says, SinkTold, sink_told, GivesReply, GivesReplies, malformed, reply_for, request_in, requests_in, talk}
-use Rattle.service_laws.proofs.Facts.{cases_Bool, cond-true, cond-false, false≢true, true≢false, Grew-runs, one_reply, told_is_carried, none_some, same_first}
+use Rattle.service_laws.proofs.Words.{◌≡◌, ◌≢◌, ◌≤◌, ℕ, true, false, List, [], ◌∷◌, ◌++◌, length, map, if◌then◌else◌, Option, Some, None, Result, Ok, Err, IfSome, IsTrue, is_some, ◌⊎◌, inl, inr, refl, sym, ap, subst, ◌∙◌, append-nil, arith, cons_option, list_all, list_any, option_map, option_to_list, result_ok}
+use Rattle.service_laws.proofs.Terms.{Carrying, Exchange, made_in, ReplyParts, RequestParts, Runs, readings_of, events_of, outcomes_of, Frame, Request, BeginsWithFrame, BeginsWithFrames, HasNoFrame, reply_text, close_lines, content_lines, id_lines, request_frame, request_text, caller_lines, expiry_lines, host_field, origin_lines, host_of, Peer, Carried, handed_on, EntityData, History, Event, Ask, Outcome, Done, Forward, Item, Ticked, Starved, Step, Ended, Closed, NoFrame, asks_by, asks_to_close, closes, Says, SinkTold, sink_told, GivesReply, GivesReplies, RepliesBy, malformed, reply_for, request_in, requests_in, talk}
+use Rattle.service_laws.proofs.Facts.{cases_Bool, cond-true, cond-false, false≢true, true≢false, Grew-runs, one_reply, told_is_carried, none_some, same_Some, same_first}
 use Rattle.std.specs.Fmt.{decimal}
 use Rattle.m2m_value.specs.Data.{Data, depth}
 use Rattle.m2m_value.specs.Reading.{reading_depth}
@@ -24,11 +24,18 @@ use Rattle.http_binding.proofs.LawLemmas.{binds_to_kinds}
 use Rattle.http_client_binding.proofs.AskLemmas.{request_back}
 use Rattle.binding_laws.proofs.BoundLemmas.{bound_back}
 use Rattle.binding_laws.proofs.ToldLemmas.{none_told}
-use Rattle.peer_link.specs.PeerTalk.{PeerTalks}
+use Rattle.peer_link.specs.PeerTalk.{PeerTalks, answers_none, is_unanswered, unasked}
 use Rattle.service_laws.specs.Laws.{IsFaultless}
-use Rattle.service_laws.specs.Peers.{AnAnswerIsThePeers, AnswersBound, AnswersOnce, GivesTold, IsPeersAnswer, IsRefusedThere, TheRequestIsAnsweredThere, WhatBindsToNothingIsRefusedThere, WhatIsNoMessageIsRefusedThere}
+use Rattle.service_laws.specs.Peers.{AnAnswerIsThePeers, AnswersBound, AnswersOnce, GivesTold, IsPeersAnswer, IsRefusedThere, RepliesAlone, TheRequestIsAnsweredThere, WhatBindsToNothingIsRefusedThere, WhatIsNoMessageIsRefusedThere}
 use Rattle.service_laws.proofs.RepeatLemmas.{of_kinds}
 use Rattle.service_laws.proofs.OneWayLemmas.{Settles, heard_one_way, said_whole, settles}
+use Rattle.cse_server.specs.Outside.{LinkTold}
+use Rattle.desk_replies.proofs.LinkLemmas.{carries_all}
+use Rattle.desk_replies.proofs.PlainLemmas.{plain_asked}
+use Rattle.http_forwarding.specs.Answers.{unreached}
+use Rattle.cse_machine.specs.Answer.{starved}
+use Rattle.std.specs.Prelude.{not}
+use Rattle.std.proofs.lemmas.Bool.{and_parts}
 
 -- ---- it closes the connection
 
@@ -111,12 +118,47 @@ echo_kind sent url =
     (sym (echo_is frame.start frame.body (host_of url) sent.fr sent.rqi sent.rqet (created_type sent.op sent.ty) sent.pc (decimal (length frame.body))))
     (id_kind sent.rqi)
 
+-- ---- where its own link answers nothing
+
+-- an exchange that failed has no answer
+no_answer : (x : Exchange) (answer : Option (List ℕ)) → x.answer ≡ answer → is_unanswered x ≡ true → answer ≡ None
+no_answer x None is failed = refl
+no_answer x (Some bytes) is failed = absurd (false≢true (subst (λ (a : Option (List ℕ)). not (is_some a) ≡ true) is failed))
+
+-- and the reply to what went on is that it wasn't reached, or that memory ran out
+by_failed : (sent : RequestParts) (reply : ReplyParts) (carrying : Carrying) (made : Option Exchange) → carrying.made ≡ made → list_all is_unanswered (option_to_list made) ≡ true → RepliesBy sent reply carrying → (reply ≡ unreached sent.rqi) ⊎ (reply ≡ starved sent)
+by_failed sent reply carrying made is failed (inl short) = inr short.1
+by_failed sent reply carrying None is failed (inr by) =
+    let made : option_map (λ (x : Exchange). x.answer) None ≡ Some by.1.0 = subst (λ (m : Option Exchange). option_map (λ (x : Exchange). x.answer) m ≡ Some by.1.0) is by.1.1 in
+    cc
+by_failed sent reply carrying (Some x) is failed (inr by) =
+    let here : Some x.answer ≡ Some by.1.0 = subst (λ (m : Option Exchange). option_map (λ (y : Exchange). y.answer) m ≡ Some by.1.0) is by.1.1 in
+    let none : by.1.0 ≡ None = no_answer x by.1.0 (same_Some x.answer by.1.0 here) (and_parts (is_unanswered x) true failed).0 in
+    inl (subst (λ (a : Option (List ℕ)). Carried a sent.rqi reply) none by.1.2)
+
+gives_alone : (request : RequestParts) (outcome : Outcome) (reply : ReplyParts) (carried : List Carrying) → GivesReply request outcome reply carried → list_all is_unanswered (made_in carried) ≡ true → RepliesAlone request outcome reply
+gives_alone request (Done answered) reply carried gives failed = gives.0
+gives_alone request (Forward poa sent) reply carried gives failed =
+    let made : option_to_list gives.carrying.made ++ [] ≡ option_to_list gives.carrying.made = append-nil (option_to_list gives.carrying.made) in
+    by_failed sent reply gives.carrying gives.carrying.made refl
+    (subst (λ (xs : List Exchange). list_all is_unanswered xs ≡ true) made
+    (subst (λ (v : List Carrying). list_all is_unanswered (made_in v) ≡ true) gives.once failed))
+    gives.replies
+gives_alone request (Item given) reply carried gives failed = gives.0
+gives_alone request Ticked reply carried gives failed = gives.0
+gives_alone request (Starved few) reply carried gives failed = gives.0
+
+-- what a link tells that answered nothing
+told_failed : (carried : List Carrying) (told : Option (List Exchange)) → Tells (λ list. list ++ made_in carried) (Some []) told → answers_none told ≡ true → list_all is_unanswered (made_in carried) ≡ true
+told_failed carried None tells alone = absurd (false≢true alone)
+told_failed carried (Some xs) tells alone = subst (λ (v : List Exchange). list_all is_unanswered v ≡ true) tells alone
+
 -- So is that of a reply which an entity gives what a frame is bound to.
-told_kind : (frame : Frame) (bound : Result RequestParts BindFault) (before after : EntityData) (given now : Option (List ℕ)) (told : ReplyParts)
-    → binding frame ≡ bound → IsOfItsKind (echo_of frame) → AnswersBound before after given now bound (echo_of frame) told → IsReplyOfKinds told
-told_kind frame (Ok asked) before after given now told is echo answers =
+told_kind : (frame : Frame) (bound : Result RequestParts BindFault) (before after : EntityData) (given now : Option (List ℕ)) (link : LinkTold) (told : ReplyParts)
+    → binding frame ≡ bound → IsOfItsKind (echo_of frame) → AnswersBound before after given now link bound (echo_of frame) told → IsReplyOfKinds told
+told_kind frame (Ok asked) before after given now link told is echo answers =
     of_kinds answers.reading asked before after answers.outcome told answers.carried answers.step answers.gives (binds_to_kinds frame asked is).0.form
-told_kind frame (Err fault) before after given now told is echo answers = subst IsReplyOfKinds (sym answers.0) echo
+told_kind frame (Err fault) before after given now link told is echo answers = subst IsReplyOfKinds (sym answers.0) echo
 
 -- content that is sound, and no deeper than a text is read
 both : (pc : Option Data) → IfSome pc IsSound → IfSome pc (λ d. depth d ≤ reading_depth) → IfSome pc (λ d. IsSound d × (depth d ≤ reading_depth))
@@ -143,21 +185,24 @@ gives_told answer rqi told reply text kind sound carried = record {
 -- one outcome of one request gives one reply
 one_given : (asked : RequestParts) (outcome : Outcome) (replies : List ReplyParts) (carried : List Carrying)
     → GivesReplies (asked ∷ []) (outcome ∷ []) replies carried
-    → (reply : ReplyParts) × (replies ≡ reply ∷ []) × ((first : List Carrying) × GivesReply asked outcome reply first)
+    → (reply : ReplyParts) × (replies ≡ reply ∷ []) × GivesReply asked outcome reply carried
 one_given asked outcome [] carried g = absurd g
-one_given asked outcome (p ∷ []) carried g = (p, refl, (g.0, g.3))
+one_given asked outcome (p ∷ []) carried g =
+    let whole : g.0 ≡ carried = sym (append-nil g.0) ∙ ap (λ (v : List Carrying). g.0 ++ v) (sym g.4) ∙ sym g.2 in
+    (p, refl, subst (λ (v : List Carrying). GivesReply asked outcome p v) whole g.3)
 one_given asked outcome (p ∷ q ∷ ps) carried g = absurd g.4
 
 -- the request that the frame is bound to was asked, and nothing else
-asked_once : (asked : RequestParts) (before after : EntityData) (given now : Option (List ℕ)) (mine : History)
+asked_once : (asked : RequestParts) (before after : EntityData) (given now : Option (List ℕ)) (link : LinkTold) (mine : History)
     (readings : List ℕ) (outcomes : List Outcome) (replies : List ReplyParts) (carried : List Carrying)
     → events_of mine ≡ Ask asked ∷ [] → Runs Step before mine after → readings_of mine ≡ readings → outcomes_of mine ≡ outcomes
     → Tells (λ list. list ++ readings) given now → GivesReplies (asked ∷ []) outcomes replies carried
-    → (reply : ReplyParts) × (replies ≡ reply ∷ []) × AnswersOnce before after given now asked reply
-asked_once asked before after given now [] readings outcomes replies carried events run reads came clock gives =
+    → (answers_none link.exchanges ≡ true → list_all is_unanswered (made_in carried) ≡ true)
+    → (reply : ReplyParts) × (replies ≡ reply ∷ []) × AnswersOnce before after given now link asked reply
+asked_once asked before after given now link [] readings outcomes replies carried events run reads came clock gives failed =
     absurd (none_some (Ask asked) [] events)
-asked_once asked before after given now (m ∷ n ∷ mine) readings outcomes replies carried events run reads came clock gives = cc
-asked_once asked before after given now (m ∷ []) readings outcomes replies carried events run reads came clock gives =
+asked_once asked before after given now link (m ∷ n ∷ mine) readings outcomes replies carried events run reads came clock gives failed = cc
+asked_once asked before after given now link (m ∷ []) readings outcomes replies carried events run reads came clock gives failed =
     let event : m.event ≡ Ask asked = same_first m.event (Ask asked) [] [] events in
     let one = one_given asked m.outcome replies carried (subst (λ (os : List Outcome). GivesReplies (asked ∷ []) os replies carried) (sym came) gives) in
     let step : Step m.reading (Ask asked) before m.outcome run.0 = subst (λ (v : Event). Step m.reading v before m.outcome run.0) event run.1 in (
@@ -166,10 +211,11 @@ asked_once asked before after given now (m ∷ []) readings outcomes replies car
       record {
         reading = m.reading;
         outcome = m.outcome;
-        carried = one.2.0;
+        carried = carried;
         clock = subst (λ (rs : List ℕ). Tells (λ list. list ++ rs) given now) (sym reads) clock;
         step = subst (λ (e : EntityData). Step m.reading (Ask asked) before m.outcome e) (sym run.2) step;
-        gives = one.2.1;
+        gives = one.2;
+        alone = λ none. gives_alone asked m.outcome one.0 carried one.2 (failed none);
       },
     )
 
@@ -179,16 +225,17 @@ asked_nothing before after [] events run = run
 asked_nothing before after (m ∷ mine) events run = absurd (none_some m.event (events_of mine) (sym events))
 
 -- what was asked for one frame, by what it is bound to
-answers_by : (frame : Frame) (bound : Result RequestParts BindFault) (before after : EntityData) (given now : Option (List ℕ))
+answers_by : (frame : Frame) (bound : Result RequestParts BindFault) (before after : EntityData) (given now : Option (List ℕ)) (link : LinkTold)
     (mine : History) (readings : List ℕ) (outcomes : List Outcome) (replies : List ReplyParts) (carried : List Carrying)
     → events_of mine ≡ map Ask (cons_option (result_ok bound) []) → Runs Step before mine after
     → readings_of mine ≡ readings → outcomes_of mine ≡ outcomes
     → Tells (λ list. list ++ readings) given now → GivesReplies (cons_option (result_ok bound) []) outcomes replies carried
-    → AnswersBound before after given now bound (echo_of frame) (reply_for frame (result_ok bound) replies)
-answers_by frame (Ok asked) before after given now mine readings outcomes replies carried events run reads came clock gives =
-    let one = asked_once asked before after given now mine readings outcomes replies carried events run reads came clock gives in
-    subst (λ (ps : List ReplyParts). AnswersOnce before after given now asked (reply_for frame (Some asked) ps)) (sym one.1) one.2
-answers_by frame (Err fault) before after given now mine readings outcomes replies carried events run reads came clock gives =
+    → (answers_none link.exchanges ≡ true → list_all is_unanswered (made_in carried) ≡ true)
+    → AnswersBound before after given now link bound (echo_of frame) (reply_for frame (result_ok bound) replies)
+answers_by frame (Ok asked) before after given now link mine readings outcomes replies carried events run reads came clock gives failed =
+    let one = asked_once asked before after given now link mine readings outcomes replies carried events run reads came clock gives failed in
+    subst (λ (ps : List ReplyParts). AnswersOnce before after given now link asked (reply_for frame (Some asked) ps)) (sym one.1) one.2
+answers_by frame (Err fault) before after given now link mine readings outcomes replies carried events run reads came clock gives failed =
     (refl, asked_nothing before after mine events run)
 
 -- ---- together
@@ -201,41 +248,43 @@ module _ (sent : RequestParts) (url : List ℕ) (before after : EntityData) (giv
   whole_here = whole_end talks.ended talks.whole
 
   -- what was heard settles the rest of the stream
-  settled : Settles 1 talks.ended talks.serves.refused talks.serves.heard talks.serves.stream.0
+  settled : Settles 1 talks.ended talks.serves.talks.refused talks.serves.talks.heard talks.serves.talks.stream.0
   settled =
-      let stream = talks.serves.stream in
-      settles 1 talks.ended talks.serves.refused talks.serves.heard stream.0 talks.new.left whole_here stream.2 stream.3
+      let stream = talks.serves.talks.stream in
+      settles 1 talks.ended talks.serves.talks.refused talks.serves.talks.heard stream.0 talks.new.left whole_here stream.2 stream.3
 
   -- all of the talk was written
-  said_there : answer ≡ talk 1 talks.serves.heard talks.serves.refused talks.serves.asks.replies
-  said_there = written_all talks.ended answer _ _ _ _ talks.new.out whole_here talks.answer_is talks.serves.said
+  said_there : answer ≡ talk 1 talks.serves.talks.heard talks.serves.talks.refused talks.serves.talks.answers.replies
+  said_there = written_all talks.ended answer _ _ _ _ talks.new.out whole_here talks.answer_is talks.serves.talks.says
 
   -- ---- where its frame stands at the front
 
-  peers_answer : (rest : List ℕ) → BeginsWithFrame Request bytes (request_frame sent url Peer) rest → IsPeersAnswer before after given now (request_frame sent url Peer) sent.rqi answer
+  peers_answer : (rest : List ℕ) → BeginsWithFrame Request bytes (request_frame sent url Peer) rest → IsPeersAnswer before after given now talks.new.link (request_frame sent url Peer) sent.rqi answer
   peers_answer rest begins =
       let frame : Frame = request_frame sent url Peer in
-      let served = talks.serves in
+      let served = talks.serves.talks in
       let here : closes 1 frame ≡ true = closes_here sent url 1 in
       let alone : BeginsWithFrames Request bytes (frame ∷ []) rest = (rest, begins, refl) in
       let stream = served.stream in
       let heard =
       heard_one_way served.heard (frame ∷ []) 1 talks.ended Closed served.refused false bytes stream.0 rest stream.1 alone served.up_to refl
       settled (lone_settles frame rest here) in
-      let asks = served.asks in
-      let mine = asks.asked.mine in
-      let requests : requests_in served.heard ≡ cons_option (result_ok (binding frame)) [] = ap requests_in heard.0 in
-      let told : List ℕ = reply_text (reply_for frame (request_in frame) asks.replies) true in
+      let asked = talks.serves.asked in
+      let asks = talks.serves.asks in
+      let plain = plain_asked (requests_in served.heard) asked served.answers in
+      let requests : asked.requests ≡ cons_option (result_ok (binding frame)) [] = plain.0 ∙ ap requests_in heard.0 in
+      let told : List ℕ = reply_text (reply_for frame (request_in frame) asked.replies) true in
       let said : answer ≡ told =
       said_there
-      ∙ (λ i. talk 1 (heard.0 i) (heard.1 i) asks.replies) ∙ lone_talk frame asks.replies here in
-      let reply : ReplyParts = reply_for frame (request_in frame) asks.replies in
-      let answers : AnswersBound before after given now (binding frame) (echo_of frame) reply =
-      answers_by frame (binding frame) before after given now mine asks.readings asks.outcomes asks.replies asks.carried
-      (asks.asked.events_are ∙ ap (map Ask) requests) (Grew-runs Step asks.asked.grew) asks.asked.readings_are asks.asked.outcomes_are
+      ∙ (λ i. talk 1 (heard.0 i) (heard.1 i) (sym plain.1 i)) ∙ lone_talk frame asked.replies here in
+      let reply : ReplyParts = reply_for frame (request_in frame) asked.replies in
+      let answers : AnswersBound before after given now talks.new.link (binding frame) (echo_of frame) reply =
+      answers_by frame (binding frame) before after given now talks.new.link asks.asks.mine asks.readings asked.outcomes asked.replies asked.carried
+      (asks.asks.events_are ∙ ap (map Ask) requests) (Grew-runs Step asks.asks.grew) asks.asks.readings_are asks.asks.outcomes_are
       (subst (λ (r : Option (List ℕ)). Tells (λ list. list ++ asks.readings) given r) talks.clock asks.clock)
-      (subst (λ (rs : List RequestParts). GivesReplies rs asks.outcomes asks.replies asks.carried) requests asks.gives) in
-      let kind : IsReplyOfKinds reply = told_kind frame (binding frame) before after given now reply refl (echo_kind sent url) answers in
+      (subst (λ (rs : List RequestParts). GivesReplies rs asked.outcomes asked.replies asked.carried) requests asks.gives)
+      (told_failed asked.carried talks.new.link.exchanges (carries_all asked.carried unasked talks.new.link asks.link).told) in
+      let kind : IsReplyOfKinds reply = told_kind frame (binding frame) before after given now talks.new.link reply refl (echo_kind sent url) answers in
       record {
         reply = reply;
         answers = answers;
@@ -256,7 +305,7 @@ module _ (sent : RequestParts) (url : List ℕ) (before after : EntityData) (giv
   bound_to_nothing rest fault begins bound =
       let frame = request_frame sent url Peer in
       let peers = peers_answer rest begins in
-      let refused = subst (λ (b : Result RequestParts BindFault). AnswersBound before after given now b (echo_of frame) peers.reply) bound peers.answers in
+      let refused = subst (λ (b : Result RequestParts BindFault). AnswersBound before after given now talks.new.link b (echo_of frame) peers.reply) bound peers.answers in
       record {
         stays = refused.1;
         gives = refused_so (echo_of frame) (echo_kind sent url) (peers.text ∙ ap (λ (r : ReplyParts). reply_text r true) refused.0);
@@ -264,15 +313,16 @@ module _ (sent : RequestParts) (url : List ℕ) (before after : EntityData) (giv
 
   no_message : HasNoFrame Request bytes → bytes ≢ [] → IsRefusedThere before after sent.rqi answer
   no_message none some =
-      let served = talks.serves in
+      let served = talks.serves.talks in
       let stream = served.stream in
       let heard =
       heard_one_way served.heard [] 1 talks.ended NoFrame served.refused true bytes stream.0 bytes stream.1 refl served.up_to refl
       settled (record { closed = λ f. absurd (true≢false f); refusal = λ t. (refl, refl, some, none) }) in
-      let asks = served.asks in
+      let asks = talks.serves.asks in
+      let plain = plain_asked (requests_in served.heard) talks.serves.asked served.answers in
       record {
-        stays = asked_nothing before after asks.asked.mine (asks.asked.events_are ∙ ap (λ (fs : List Frame). map Ask (requests_in fs)) heard.0) (Grew-runs Step asks.asked.grew);
-        gives = refused_so None tt (said_there ∙ (λ i. talk 1 (heard.0 i) (heard.1 i) asks.replies));
+        stays = asked_nothing before after asks.asks.mine (asks.asks.events_are ∙ ap (map Ask) plain.0 ∙ ap (λ (fs : List Frame). map Ask (requests_in fs)) heard.0) (Grew-runs Step asks.asks.grew);
+        gives = refused_so None tt (said_there ∙ (λ i. talk 1 (heard.0 i) (heard.1 i) served.answers.replies));
       }
 
 pub answer_is_the_peers : AnAnswerIsThePeers
@@ -308,6 +358,6 @@ answered_there sent url before after given now answer says talks =
       back.0,
       back.1,
       peers.reply,
-      subst (λ (b : Result RequestParts BindFault). AnswersBound before after given now b (echo_of (request_frame sent url Peer)) peers.reply) back.2 peers.answers,
+      subst (λ (b : Result RequestParts BindFault). AnswersBound before after given now talks.new.link b (echo_of (request_frame sent url Peer)) peers.reply) back.2 peers.answers,
       peers.text,
     )

@@ -106,7 +106,7 @@ module _ (sent : RequestParts) (url : List ℕ) (there left : EntityData) (given
 
   abbrev Known : Type 0
   Known =
-      ((asked : RequestParts) × BytesBind bytes asked × IsAnsweredThere there left given now asked sent.rqi answer)
+      ((asked : RequestParts) × BytesBind bytes asked × IsAnsweredThere there left given now talks.new.link asked sent.rqi answer)
       ⊎ (BytesBindToNone bytes × IsRefusedThere there left sent.rqi answer)
 
   by_binding : (bound : Result RequestParts BindFault) → binding own ≡ bound → BeginsWithFrame Request bytes own [] → Known
@@ -117,7 +117,7 @@ module _ (sent : RequestParts) (url : List ℕ) (there left : EntityData) (given
         record { frame = own; rest = []; begins = begins; binds = is },
         record {
           told = peers.reply;
-          answers = subst (λ (b : Result RequestParts BindFault). AnswersBound there left given now b (echo_of own) peers.reply) is peers.answers;
+          answers = subst (λ (b : Result RequestParts BindFault). AnswersBound there left given now talks.new.link b (echo_of own) peers.reply) is peers.answers;
           text = peers.text;
           gives = peers.gives;
         },

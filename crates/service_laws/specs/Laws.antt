@@ -6,6 +6,8 @@ use Rattle.m2m_io.specs.Link.{Carrying, Exchange, made_in}
 use Rattle.cse_server.specs.Outside.{LinkTold, Outside, outside, sink_told}
 use Rattle.turn_desk.specs.Entries.{readings_of, events_of, outcomes_of}
 use Rattle.turn_desk.specs.Growth.{IsOwnRun}
+use Rattle.desk_replies.specs.Asking.{Asked}
+use Rattle.desk_replies.specs.Rule.{ReplyRule, plainly}
 use Rattle.primitive_json.specs.declared.reply.ReplyParts.{ReplyParts}
 use Rattle.primitive_json.specs.declared.request.RequestParts.{RequestParts}
 use Rattle.http_frames.specs.declared.frame.Frame.{Frame}
@@ -17,7 +19,7 @@ use Rattle.cse_machine.specs.declared.event.Outcome.TheVariants.{Done}
 use Rattle.guard_laws.specs.Guard.{IsGuarded}
 use Rattle.cse_machine.specs.History.{History, HistoryLeaves, IsDone}
 use Rattle.machine_laws.specs.Sight.{shape, sight, IsRequestBy, are_calm_but_last, is_calm_event}
-use Rattle.machine_laws.specs.Sight.{is_polling}
+use Rattle.machine_laws.specs.Sight.{NonePolls, is_polling}
 use Rattle.cse_machine.specs.Step.{Step}
 use Rattle.cse_server.specs.declared.connection.Ended.{Ended}
 use Rattle.cse_server.specs.declared.connection.Ended.TheVariants.{Closed, NoFrame, ReadFault}
@@ -33,19 +35,19 @@ NothingIsAnsweredBehindClose =
     → some_closes frames place ≡ true
     → reply_texts (frames ++ more) place replies ≡ reply_texts frames place replies
 
--- What a connection of a sound entity shows and changes is guarded: where the outcome of a request
--- that was heard is a reply, this shows nothing and its step changed nothing but by a grant to the
--- originator, judged on the entity that the history of the requests before it left, with the
--- outcomes that these had and at the readings that the clock gave, and from which what was due is
--- gone.
+-- What a connection of a sound entity shows and changes is guarded, by whatever rule it is
+-- answered: where the outcome of a request that was asked is a reply, this shows nothing and its
+-- step changed nothing but by a grant to the originator, judged on the entity that the history of
+-- the requests before it left, with the outcomes that these had and at the readings that the clock
+-- gave, and from which what was due is gone.
 abbrev pub ServesGuarded : Type 0
 ServesGuarded =
-    (opening after : EntityData) (old new : Outside) (ended : Ended)
-    (served : Serves (IsOwnRun Step) opening after old new ended)
+    (rule : ReplyRule) (opening after : EntityData) (old new : Outside) (ended : Ended)
+    (served : Serves rule (IsOwnRun Step) opening after old new ended)
     (earlier later : List RequestParts) (request : RequestParts)
     (before behind : List Outcome) (reply : ReplyParts)
-    → IsSoundEntity opening → requests_in served.heard ≡ earlier ++ request ∷ later
-    → served.asks.outcomes ≡ before ++ Done reply ∷ behind
+    → IsSoundEntity opening → served.asked.requests ≡ earlier ++ request ∷ later
+    → served.asked.outcomes ≡ before ++ Done reply ∷ behind
     → length earlier ≡ length before
     → (history : History) × (found : EntityData) × (left : EntityData)
     × (reading : ℕ) × (then : List ℕ)
@@ -74,10 +76,11 @@ AnswerAlike (x ∷ exchanges) (y ∷ others) =
 abbrev pub HadMemory : Carrying → Type 0
 HadMemory carrying = carrying.starved ≡ false
 
--- Two connections were served with one stream at the same readings, the first by the entity `left`,
--- which it left as `after`, and the second by `right`, which it left as `other`. Nothing went wrong
--- with either, there was memory for each request and for what was carried for it, and their links
--- answered alike. What their links told before may differ.
+-- Two connections were served with one stream at the same readings, where nothing is asked behind
+-- a request: the first by the entity `left`, which it left as `after`, and the second by `right`,
+-- which it left as `other`. Nothing went wrong with either, there was memory for each request and
+-- for what was carried for it, and their links answered alike. What their links told before may
+-- differ.
 pub record ServesBoth (left right after other : EntityData) : Type 0 where
   pub stream : List ℕ
   pub given : List ℕ
@@ -99,26 +102,26 @@ pub record ServesBoth (left right after other : EntityData) : Type 0 where
   pub other_link_now : LinkTold
   pub ended : Ended
   pub end : Ended
-  pub first : Serves (IsOwnRun Step) left after
+  pub first : Serves plainly (IsOwnRun Step) left after
       (outside (Some stream) (sink_told (Some old) puts) (Some given) link)
       (outside rest (sink_told (Some new) puts_now) (Some told) link_now) ended
-  pub second : Serves (IsOwnRun Step) right other
+  pub second : Serves plainly (IsOwnRun Step) right other
       (outside (Some stream) (sink_told (Some old) other_puts) (Some given) other_link)
       (outside other_rest (sink_told (Some twin) other_puts_now) (Some told) other_link_now) end
   pub whole : IsFaultless ended
   pub wholes : IsFaultless end
-  pub done : All IsDone first.asks.outcomes
-  pub dones : All IsDone second.asks.outcomes
-  pub carried : All HadMemory first.asks.carried
-  pub carries : All HadMemory second.asks.carried
-  pub links : AnswerAlike (made_in first.asks.carried) (made_in second.asks.carried)
+  pub done : All IsDone first.asked.outcomes
+  pub dones : All IsDone second.asked.outcomes
+  pub carried : All HadMemory first.asked.carried
+  pub carries : All HadMemory second.asked.carried
+  pub links : AnswerAlike (made_in first.asked.carried) (made_in second.asked.carried)
 
 -- Both got the same bytes, ended alike, and the same was carried for both.
 abbrev pub AreServedAlike :
     {left right after other : EntityData} → ServesBoth left right after other → Type 0
 AreServedAlike both =
     (both.new ≡ both.twin) × (both.ended ≡ both.end)
-    × (both.first.asks.carried ≡ both.second.asks.carried)
+    × (both.first.asked.carried ≡ both.second.asked.carried)
 
 -- A stream is answered in one way: two connections that are served with it at the same readings by
 -- the same entity are served alike, and leave the same entity.
@@ -127,20 +130,40 @@ IsAnsweredInOneWay =
     (opening after other : EntityData) (both : ServesBoth opening opening after other)
     → AreServedAlike both × (after ≡ other)
 
+-- None of the requests that were asked at these readings is a poll of the entity that it finds: so
+-- it is in the history of them, from the entity that opened to the one after.
+pub record NonePolled (opening after : EntityData) (readings : List ℕ) (asked : Asked)
+    : Type 0 where
+  pub history : History
+  pub leaves : HistoryLeaves opening history after
+  pub readings_are : readings_of history ≡ readings
+  pub events_are : events_of history ≡ map Ask asked.requests
+  pub outcomes_are : outcomes_of history ≡ asked.outcomes
+  pub none : NonePolls opening history after leaves
+
 -- Equal sights are served alike: so are two connections that are served by sound entities of which
 -- an originator sees the same, where each request that was heard is by that originator, or isn't
--- served, whoever asks; where none is a Retrieve of an address with the segment of a poll point; and
--- where none but the last names policies or rules. The entities have one shape for the originator
--- afterwards; and it sees the same of what they leave, where the last names none either.
+-- served, whoever asks; where none of them polls; and where none but the last names policies or
+-- rules. The entities have one shape for the originator afterwards; and it sees the same of what
+-- they leave, where the last names none either.
 abbrev pub EqualSightsAreServedAlike : Type 0
 EqualSightsAreServedAlike =
     (left right after other : EntityData) (originator : List ℕ)
     (both : ServesBoth left right after other)
     → IsSoundEntity left → IsSoundEntity right → sight originator left ≡ sight originator right
-    → All (IsRequestBy left.home originator) (requests_in both.first.heard)
-    → list_any (is_polling left.home) (requests_in both.first.heard) ≡ false
-    → IsTrue (are_calm_but_last (map Ask (requests_in both.first.heard)))
+    → All (IsRequestBy left.home originator) (requests_in both.first.talks.heard)
+    → NonePolled left after both.first.asks.readings both.first.asked
+    → IsTrue (are_calm_but_last (map Ask (requests_in both.first.talks.heard)))
     → AreServedAlike both
-    × (IsTrue (list_all is_calm_event (map Ask (requests_in both.first.heard)))
+    × (IsTrue (list_all is_calm_event (map Ask (requests_in both.first.talks.heard)))
     → sight originator after ≡ sight originator other)
     × (shape originator after ≡ shape originator other)
+
+-- Where none of the requests of a connection is a Retrieve of an address with the segment of a poll
+-- point, none of them polls. So the bytes of the stream alone can tell that none does.
+abbrev pub WithoutTheSegmentNonePolled : Type 0
+WithoutTheSegmentNonePolled =
+    (opening after : EntityData) (old new : Outside) (ended : Ended)
+    (served : Serves plainly (IsOwnRun Step) opening after old new ended)
+    → list_any (is_polling opening.home) (requests_in served.talks.heard) ≡ false
+    → NonePolled opening after served.asks.readings served.asked

@@ -76,8 +76,8 @@ WhatGoesOnIsAnsweredThere =
     (reading : ℕ) (request : RequestParts) (before after : EntityData) (url : List ℕ)
     (sent : RequestParts) → GoesOnSaid reading request before after url sent
     → (there left : EntityData) (given now : Option (List ℕ)) (answer : List ℕ)
-    → PeerTalks there left given now (request_text sent url Peer) answer
+    → (talks : PeerTalks there left given now (request_text sent url Peer) answer)
     → (read : Option FilterParts) × AreAlike sent.fc read × (told : ReplyParts)
-    × AnswersOnce there left given now (record sent { fc = read }) told
+    × AnswersOnce there left given now talks.new.link (record sent { fc = read }) told
     × ((reply : ReplyParts) → IfSome told.pc IsSound → Carried (Some answer) sent.rqi reply
     → GivesTold sent.rqi told reply)

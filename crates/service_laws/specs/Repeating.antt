@@ -9,7 +9,7 @@ use Rattle.entity_model.specs.Entity.{EntityData}
 use Rattle.cse_machine.specs.declared.event.Event.TheVariants.{Ask}
 use Rattle.cse_machine.specs.declared.event.Outcome.{Outcome}
 use Rattle.cse_machine.specs.Step.{Step}
-use Rattle.cse_server.specs.Replies.{GivesReply}
+use Rattle.desk_replies.specs.Replies.{GivesReply}
 
 -- The reply repeats the identifier of the request.
 abbrev pub Repeats : RequestParts → ReplyParts → Type 0

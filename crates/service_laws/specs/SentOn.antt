@@ -19,6 +19,7 @@ use Rattle.cse_machine.specs.declared.event.Event.TheVariants.{Ask}
 use Rattle.cse_machine.specs.declared.event.Outcome.TheVariants.{Forward}
 use Rattle.cse_machine.specs.Step.{Step}
 use Rattle.binding_laws.specs.OneMessage.{CanStandInHead}
+use Rattle.cse_server.specs.Outside.{LinkTold}
 use Rattle.peer_link.specs.PeerTalk.{PeerTalks}
 use Rattle.service_laws.specs.Peers.{AnswersOnce, GivesTold, IsRefusedThere}
 
@@ -52,9 +53,9 @@ BytesBindToNone bytes = (asked : RequestParts) → ¬ (BytesBind bytes asked)
 -- The answer is one reply, which the machine of the other CSE gives this request; and the caller
 -- gets it so, where its content is sound, as each value is that is kept.
 pub record IsAnsweredThere (there left : EntityData) (given now : Option (List ℕ))
-    (asked : RequestParts) (rqi answer : List ℕ) : Type 0 where
+    (link : LinkTold) (asked : RequestParts) (rqi answer : List ℕ) : Type 0 where
   pub told : ReplyParts
-  pub answers : AnswersOnce there left given now asked told
+  pub answers : AnswersOnce there left given now link asked told
   pub text : answer ≡ reply_text told true
   pub gives : (reply : ReplyParts) → IfSome told.pc IsSound → Carried (Some answer) rqi reply
       → GivesTold rqi told reply
@@ -67,8 +68,8 @@ WhatIsSentOnIsAnsweredOrRefused =
     (reading : ℕ) (request : RequestParts) (before after : EntityData) (url : List ℕ)
     (sent : RequestParts) → IsSentOn reading request before after url sent
     → (there left : EntityData) (given now : Option (List ℕ)) (answer : List ℕ)
-    → PeerTalks there left given now (request_text sent url Peer) answer
+    → (talks : PeerTalks there left given now (request_text sent url Peer) answer)
     → ((asked : RequestParts) × BytesBind (request_text sent url Peer) asked
-    × IsAnsweredThere there left given now asked sent.rqi answer)
+    × IsAnsweredThere there left given now talks.new.link asked sent.rqi answer)
     ⊎ (BytesBindToNone (request_text sent url Peer)
     × IsRefusedThere there left sent.rqi answer)

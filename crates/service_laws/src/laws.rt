@@ -1,6 +1,7 @@
 //! Laws of the definitions.
 ghost use Rattle.service_laws.specs.Laws.{EqualSightsAreServedAlike, IsAnsweredInOneWay};
 ghost use Rattle.service_laws.specs.Laws.{NothingIsAnsweredBehindClose, ServesGuarded};
+ghost use Rattle.service_laws.specs.Laws.{WithoutTheSegmentNonePolled};
 ghost use Rattle.service_laws.specs.Onward.{WhatGoesOnIsAnsweredThere, WhatGoesOnSaysAll};
 ghost use Rattle.service_laws.specs.Peers.{AnAnswerIsThePeers, TheRequestIsAnsweredThere};
 ghost use Rattle.service_laws.specs.Peers.{WhatBindsToNothingIsRefusedThere};
@@ -9,11 +10,25 @@ ghost use Rattle.service_laws.specs.Repeating.{EachReplyRepeatsTheIdentifier};
 ghost use Rattle.service_laws.specs.Repeating.{RepliesToFormsAreOfKinds};
 ghost use Rattle.service_laws.specs.SentOn.{WhatIsSentOnCanStandInHead};
 ghost use Rattle.service_laws.specs.SentOn.{WhatIsSentOnIsAnsweredOrRefused};
-ghost use Rattle.cse_server.specs.Replies.{WhatIsAnsweredHereIsNotCarried};
+ghost use Rattle.desk_replies.specs.Replies.{TheLinkTellsAllThatIsCarried};
+ghost use Rattle.desk_replies.specs.Replies.{WhatIsAnsweredHereIsNotCarried};
+ghost use Rattle.desk_replies.specs.Rule.{EachRequestIsAskedAlone};
 
 /// Once a frame closes the connection, what is behind it is not answered.
 pub fn what_is_behind_a_closing_frame_is_not_answered()
     ensures { NothingIsAnsweredBehindClose }
+{}
+
+/// Where nothing is asked behind a request, the requests that a connection heard were asked, in
+/// order, and nothing else; and what it said are the replies that their outcomes gave.
+pub fn each_request_is_asked_alone()
+    ensures { EachRequestIsAskedAlone }
+{}
+
+/// A link tells the exchanges of all requests that were carried one after another, and its count of
+/// faults rose where one of them failed, and only there.
+pub fn the_link_tells_all_that_is_carried()
+    ensures { TheLinkTellsAllThatIsCarried }
 {}
 
 /// Where the entity answers each request itself, nothing is carried to another CSE; so no exchange
@@ -84,7 +99,9 @@ pub fn a_stream_is_answered_in_one_way()
 {}
 
 /// To one originator a stream of its requests is answered by what it sees of the entity, where none of
-/// them may be a poll, up to and with the first that names policies or rules.
+/// them polls, up to and with the first that names policies or rules. Where no Retrieve has an address
+/// with the segment of a poll point, none polls.
 pub fn equal_sights_are_served_alike()
-    ensures { EqualSightsAreServedAlike }
+    ensures alike { EqualSightsAreServedAlike }
+    ensures unpolled { WithoutTheSegmentNonePolled }
 {}

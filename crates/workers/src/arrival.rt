@@ -33,7 +33,8 @@ impl<X> Arrival<X> {
         requires { K.seats desk.now seat.old }
         ensures seats { K.seats desk.now seat.new }
         ensures grew { (more : List (Marked K.Event K.Outcome)) × K.grown seat.old more seat.new }
-        ensures attends { V.attends seat.old self.conn bench.old seat.new result bench.new }
+        ensures attends { V.attends service.now seat.old self.conn bench.old seat.new result
+            bench.new }
     {
         let Arrival { conn } = self;
         service.attend(desk, seat, conn, bench)

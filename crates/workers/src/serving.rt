@@ -50,7 +50,7 @@ where
     requires { IsSeated O.step desk.now.table.shared.table_id job.old.seat }
     ensures seat { IsSeated O.step desk.now.table.shared.table_id job.new.seat }
     ensures closed { IsClosedAt job.new }
-    ensures attended { HasWorked V.attends job.old job.new }
+    ensures attended { HasWorked (V.attends service.now) job.old job.new }
 {
     for _ in rt.forever() {
         let next = gate.lock(rt).next();
@@ -86,7 +86,7 @@ where
     J: Entrance,
     requires { IsSeated O.step desk.now.table.shared.table_id seat.old }
     ensures seat { IsSeated O.step desk.now.table.shared.table_id seat.new }
-    ensures attended { WorksFrom V.attends seat.old bench.old seat.new bench.new }
+    ensures attended { WorksFrom (V.attends service.now) seat.old bench.old seat.new bench.new }
     ensures ended { HasEnded gate.new.ending }
 {
     for _ in rt.forever() {
@@ -122,7 +122,7 @@ where
     requires { AreSeated O.step desk.now.table.shared.table_id jobs.items }
     ensures seats { AreSeated O.step desk.now.table.shared.table_id result.items }
     ensures closed { All IsClosedAt result.items }
-    ensures worked { HaveWorked V.attends jobs.items result.items }
+    ensures worked { HaveWorked (V.attends service.now) jobs.items result.items }
 {
     let threads = jobs.len().max(1);
     for_each_mut(
@@ -132,7 +132,7 @@ where
         &|_place: usize, job: &mut Job<O, B, A>|
             requires { IsSeated O.step desk.now.table.shared.table_id job.old.seat }
             ensures { IsSeated O.step desk.entry.now.table.shared.table_id job.new.seat
-                × IsClosedAt job.new × HasWorked V.attends job.old job.new }
+                × IsClosedAt job.new × HasWorked (V.attends service.entry.now) job.old job.new }
         { work(rt, desk, gate, service, job) },
     );
     errand.signal().end();
@@ -200,7 +200,7 @@ where
     requires accept { accept ≡ J.accept }
     ensures comes { IsJoinedOf O.step desk.now.table.shared.table_id (known_to seat)
         (known_to_all jobs.items ++ known_to beside.seat ∷ []) (seat_after result) }
-    ensures gains { GainsByServing V.attends N.does
+    ensures gains { GainsByServing (V.attends service.now) N.does
         (map bench_of jobs.items ++ beside.bench ∷ []) first.old first.new seat
         (seat_after result) }
     ensures ok { IfOk result (λ r. ServesDoor J.accept J.start
@@ -219,7 +219,8 @@ where
     let work = move || -> Vec<Job<O, B, A>>
         requires { IsSync R.row × AreSeated O.step desk.now.table.shared.table_id jobs.items }
         ensures { AreSeated O.step desk.entry.now.table.shared.table_id result.items
-            × All IsClosedAt result.items × HaveWorked V.attends jobs.items result.items }
+            × All IsClosedAt result.items
+            × HaveWorked (V.attends service.entry.now) jobs.items result.items }
     { work_all(rt, desk, shared, service, errand, jobs) };
     let (beside, jobs) = join(rt, rounds, work);
     let (mut seat, mut bench) = all_joined(desk, seat, jobs, beside);
@@ -267,8 +268,8 @@ where
     // Seat and door come back, with the fault where one ended it, and what the seat has gained is
     // what attending gave, and then what the rounds of the errand did.
     ensures ends { EndsServing O.step desk.now.table.shared.table_id
-        (door_tells D.opened D.given D.ended D.faults) V.attends N.does accept benches.items
-        first.old first.new seat door result }
+        (door_tells D.opened D.given D.ended D.faults) (V.attends service.now) N.does accept
+        benches.items first.old first.new seat door result }
 {
     match jobs_at(alloc, desk, seat, benches) {
         Ok((seat, mut jobs)) => {

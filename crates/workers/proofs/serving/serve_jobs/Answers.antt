@@ -36,13 +36,13 @@ returns-in-Ok-clause-comes g c =
     let joined = c.all_joined-seat.ensures in
     let rest = c.serve_rest.ensures in
     comes_on (comes_on {later = c.serve_rest.new.seat} (comes_joined {seat = c.all_joined-seat.result.0} joined.seat joined.on
-    (grown_beside g.V.Service.attends _ _ (have_grown g.V.Service.attends _ _ worked) rounds.made.grew) joined.parts)
+    (grown_beside (g.V.Service.attends c.args.service.now) _ _ (have_grown (g.V.Service.attends c.args.service.now) _ _ worked) rounds.made.grew) joined.parts)
     rest.seat rest.attended.attended.grew) c.run.ensures.seats c.run.ensures.grew
 
 pub returns-in-Ok-clause-gains : goal.returns-in-Ok-clause-gains
 returns-in-Ok-clause-gains g c =
     let joined = c.all_joined-seat.ensures in
-    served_of g.V.Service.attends _ _ c.args.beside c.join-beside.result.0 c.join-beside.ensures.second.2 c.requires.fresh
+    served_of (g.V.Service.attends c.args.service.now) _ _ c.args.beside c.join-beside.result.0 c.join-beside.ensures.second.2 c.requires.fresh
     c.join-beside.ensures.first.1 c.requires.fresh_beside
     joined.bench joined.seen joined.own c.serve_rest.ensures.attended c.run.ensures.does c.run.ensures.grew
 
@@ -53,12 +53,12 @@ returns-clause-comes g c =
     let joined = c.all_joined-seat.ensures in
     let rest = c.serve_rest.ensures in
     comes_on (comes_on {later = c.serve_rest.new.seat} (comes_joined {seat = c.all_joined-seat.result.0} joined.seat joined.on
-    (grown_beside g.V.Service.attends _ _ (have_grown g.V.Service.attends _ _ worked) rounds.made.grew) joined.parts)
+    (grown_beside (g.V.Service.attends c.args.service.now) _ _ (have_grown (g.V.Service.attends c.args.service.now) _ _ worked) rounds.made.grew) joined.parts)
     rest.seat rest.attended.attended.grew) c.run.ensures.seats c.run.ensures.grew
 
 pub returns-clause-gains : goal.returns-clause-gains
 returns-clause-gains g c =
     let joined = c.all_joined-seat.ensures in
-    served_of g.V.Service.attends _ _ c.args.beside c.join-beside.result.0 c.join-beside.ensures.second.2 c.requires.fresh
+    served_of (g.V.Service.attends c.args.service.now) _ _ c.args.beside c.join-beside.result.0 c.join-beside.ensures.second.2 c.requires.fresh
     c.join-beside.ensures.first.1 c.requires.fresh_beside
     joined.bench joined.seen joined.own c.serve_rest.ensures.attended c.run.ensures.does c.run.ensures.grew

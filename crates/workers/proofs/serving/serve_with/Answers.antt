@@ -28,7 +28,7 @@ returns-in-Some g c =
     let known = known_popped c.pop.new.self.items c.in-Some.beside popped in
     record {
       ends = ends_shared g.O.Object.step c.args.desk.now.table.shared.table_id
-          (door_tells g.D.Door.opened g.D.Door.given g.D.Door.ended g.D.Door.faults) g.V.Service.attends g.N.Errand.does
+          (door_tells g.D.Door.opened g.D.Door.given g.D.Door.ended g.D.Door.faults) (g.V.Service.attends c.args.service.now) g.N.Errand.does
           c.serve_jobs.result refl refl jobs.on
           (subst (λ l. AddUpTo (known_to c.args.seat) (known_to c.in-Ok.seat ∷ l)) known jobs.parts) jobs.same
           (benches_popped c.pop.new.self.items c.in-Some.beside popped jobs.benches)

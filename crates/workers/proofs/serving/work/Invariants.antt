@@ -5,4 +5,4 @@ use Rattle.workers.proofs.serving.work.Given as goal
 abbrev pub invariant-loop : goal.invariant-loop
 invariant-loop g l =
     IsSeated g.O.Object.step l.desk.table.shared.table_id l.job.seat
-    × HasWorked g.V.Service.attends l.initial.job l.job
+    × HasWorked (g.V.Service.attends l.service) l.initial.job l.job

@@ -34,6 +34,6 @@ pub returns-clause-worked : goal.returns-clause-worked
 returns-clause-worked g c =
     let same : c.deref_mut.result.now ≡ c.args.jobs.items = search rules in
     let many : length c.args.jobs.items ≡ c.args.jobs.len = search rules in
-    let done = left_done g.O.Object.step c.args.desk.now.table.shared.table_id g.V.Service.attends _ _ (λ i p q h. h)
+    let done = left_done g.O.Object.step c.args.desk.now.table.shared.table_id (g.V.Service.attends c.args.service.now) _ _ (λ i p q h. h)
     c.for_each_mut.new.s same many c.for_each_mut.auto.s c.for_each_mut.ensures in
     done.worked

@@ -1,0 +1,4 @@
+pub mod Replies
+pub mod Asking
+pub mod Rule
+pub mod Answering
