@@ -1,16 +1,13 @@
 -- Words that are no option and no value.
-use Rattle.std.proofs.Common.{◌≡◌, ◌+◌, ◌==◌, ℕ, suc, Bool, true, false, true≢false, cond, not, ◌&&◌, ◌||◌, List, [], ◌∷◌, ◌++◌, take, drop, Option, Some, None, option_and_then, if◌then◌else◌, map, Bor, refl, sym, ap, ap₂, subst, ◌∙◌, eqb-true, arith}
+use Rattle.std.proofs.Common.{◌≡◌, ◌+◌, ◌==◌, ℕ, suc, Bool, true, false, true≢false, cond, not, ◌&&◌, ◌||◌, List, [], ◌∷◌, ◌++◌, take, drop, Option, Some, None, if◌then◌else◌, map, Bor, refl, sym, ap, ap₂, subst, ◌∙◌, eqb-true, arith}
 use Rattle.std.specs.Str.{bytes_eq}
-use Rattle.std.specs.List.{before_first, after_first, list_all, list_any, position_or_len}
+use Rattle.std.specs.List.{before_first, after_first, list_any, position_or_len}
 use Rattle.std.proofs.lemmas.Slice.Eq.{bytes_eq-Decides}
 use Rattle.m2m_names.specs.Name.{is_one_of}
-use Rattle.command_words.specs.Options.{Choice, choice, is_equals, has_dash, in_front, in_two_words, choices}
-use Rattle.command_words.specs.Command as spec
-use Rattle.command_words.specs.Command.{http_word, replay_word, serve_word, command_said, home_options, serving_options, options_say}
-use Rattle.command_words.specs.Program.{has_stray, is_stray}
-use Rattle.command_words.proofs.OptionLemmas.{first_unknown, has_equals, has_name, in_one, more, more_front, not_in_one, one_word, same_sym, two_words}
-use Rattle.command_words.proofs.ProgramLemmas.{other_said, said_by}
-use Rattle.std.proofs.lemmas.Bool.{and_right}
+use Rattle.command_words.specs.Options.{Choice, choice, is_equals, has_dash, in_front, in_two_words, choices, options_in}
+use Rattle.command_words.specs.Program.{AreOptionNames, has_stray, is_stray}
+use Rattle.command_words.proofs.OptionLemmas.{first_unknown, has_equals, has_name, in_one, more, more_front, not_in_one, one_word, two_words}
+use Rattle.command_words.proofs.ProgramLemmas.{options_more}
 
 -- a stray word is none of these texts
 stray_differs : (word text : List ℕ) → is_stray word ≡ true → is_stray text ≡ false → bytes_eq word text ≡ false
@@ -20,20 +17,9 @@ stray_differs word text e f = go (bytes_eq word text) refl
     go true h = absurd (true≢false (sym e ∙ ap is_stray ((bytes_eq-Decides word text).0 h) ∙ f))
     go false h = refl
 
-stray_none : (texts : List (List ℕ)) (word : List ℕ) → is_stray word ≡ true → list_all (λ t. not (is_stray t)) texts ≡ true → is_one_of texts word ≡ false
+stray_none : (names : List (List ℕ)) (word : List ℕ) → is_stray word ≡ true → AreOptionNames names → is_one_of names word ≡ false
 stray_none [] word e all = refl
-stray_none (text ∷ texts) word e all = go (is_stray text) refl all (stray_none texts word e)
-  where
-    go : (b : Bool) → is_stray text ≡ b → (not b && list_all (λ t. not (is_stray t)) texts) ≡ true
-        → (list_all (λ t. not (is_stray t)) texts ≡ true → is_one_of texts word ≡ false) → (bytes_eq word text || is_one_of texts word) ≡ false
-    go true f all rest = absurd (true≢false (sym all))
-    go false f all rest = ap₂ (λ a b. a || b) (stray_differs word text e f) (rest all)
-
--- no command takes it
-stray_untaken : (name word : List ℕ) → is_stray word ≡ true → spec.takes name word ≡ false
-stray_untaken name word e =
-    ap₂ (λ a b. a || (bytes_eq name serve_word && b)) (stray_none home_options word e refl) (stray_none serving_options word e refl)
-    ∙ and_right (bytes_eq name serve_word) false refl
+stray_none (name ∷ names) word e all = ap₂ (λ a b. a || b) (stray_differs word name e all.1) (stray_none names word e all.2)
 
 -- nor what stands before its equals sign
 stray_before : (word : List ℕ) → is_stray word ≡ true → is_stray (before_first is_equals word) ≡ true
@@ -72,9 +58,9 @@ stray_dash (a ∷ b ∷ c ∷ word) e = go (a == 45) e
     go true f = refl
     go false f = f
 
-module _ (name : List ℕ) where
+module _ (names : List (List ℕ)) (are : AreOptionNames names) where
   abbrev takes : List ℕ → Bool
-  takes = spec.takes name
+  takes = is_one_of names
 
   abbrev SaysNone : List (List ℕ) → Type 0
   SaysNone words = has_stray words ≡ true → (seen : List Choice) → more takes seen (choices words) ≡ None
@@ -105,7 +91,7 @@ module _ (name : List ℕ) where
   stray_step word rest ih1 ih2 e seen = go (is_stray word) (has_equals word) refl refl e
     where
       go : (s b : Bool) → is_stray word ≡ s → has_equals word ≡ b → (s || has_stray rest) ≡ true → more takes seen (choices (word ∷ rest)) ≡ None
-      go true b p q f = first_unknown takes seen word rest (stray_untaken name (before_first is_equals word) (stray_before word p))
+      go true b p q f = first_unknown takes seen word rest (stray_none names (before_first is_equals word) (stray_before word p) are)
       go false true p q f =
           let o = choice (before_first is_equals word) (after_first is_equals word) in
           ap (more takes seen) (one_word word rest o (in_one word q)) ∙ stray_behind o (choices rest) (ih1 f) seen
@@ -121,14 +107,6 @@ pub stray_texts : (words : List (Bor (List ℕ))) → list_any (λ word. is_stra
 stray_texts [] = refl
 stray_texts (word ∷ words) = ap (λ b. is_stray word.now || b) (stray_texts words)
 
--- words with a stray one say nothing
-pub stray_says : (words : List (List ℕ)) → has_stray words ≡ true → options_say words ≡ None
-stray_says [] e = absurd (true≢false (sym e))
-stray_says (name ∷ words) e = go (is_stray name) refl e
-  where
-    differs : (text : List ℕ) → is_stray text ≡ false → is_stray name ≡ true → bytes_eq text name ≡ false
-    differs text f p = same_sym text name ∙ stray_differs name text p f
-
-    go : (s : Bool) → is_stray name ≡ s → (s || has_stray words) ≡ true → options_say (name ∷ words) ≡ None
-    go true p f = other_said name (differs http_word refl p) (differs replay_word refl p) (differs serve_word refl p) words
-    go false p f = said_by name (spec.takes name) (λ n. refl) words ∙ ap (option_and_then (command_said name)) (stray_options name words f [])
+-- words with a stray one are no options
+pub stray_says : (names words : List (List ℕ)) → AreOptionNames names → has_stray words ≡ true → options_in names words ≡ None
+stray_says names words are e = options_more names words ∙ stray_options names are words e []

@@ -1,3 +1,5 @@
 pub mod Options
 pub mod Command
+pub mod Line
 pub mod Program
+pub mod Reading

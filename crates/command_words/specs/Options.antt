@@ -1,8 +1,10 @@
 -- The options behind the name of a command.
 use Rattle.std.specs.Prelude.{ℕ, ◌==◌, nat_lt, ◌&&◌, List, [], ◌∷◌, length, Bool, true, false, not}
-use Rattle.std.specs.Prelude.{Option, Some, None, is_some, find, option_map, if◌then◌else◌}
+use Rattle.std.specs.Prelude.{Option, Some, None, is_some, find, option_map, option_and_then}
+use Rattle.std.specs.Prelude.{if◌then◌else◌}
 use Rattle.std.specs.List.{before_first, after_first, position_or_len}
 use Rattle.std.specs.Str.{bytes_eq}
+use Rattle.m2m_names.specs.Name.{is_one_of}
 
 -- an option: its name, and its value
 pub record Choice : Type 0 where
@@ -59,3 +61,9 @@ abbrev pub are_options : (List ℕ → Bool) → List Choice → Bool
 are_options takes [] = true
 are_options takes (o ∷ os) =
     takes o.name && (not (is_some (option_value o.name os)) && are_options takes os)
+
+-- The options that these words are, in any order, where each of them has one of these names and
+-- none stands twice.
+abbrev pub options_in : List (List ℕ) → List (List ℕ) → Option (List Choice)
+options_in names words = option_and_then
+    (λ os. if are_options (is_one_of names) os then Some os else None) (choices words)

@@ -1,25 +1,28 @@
-//! The command that words name.
-ghost use Rattle.std.specs.Prelude.{◌≡◌, ◌∷◌, [], List, Option, IfOk, map, option_map};
-ghost use Rattle.resource_model.specs.Home.{default_home};
-ghost use Rattle.clap.specs.Words.{found_of, rows_of, subcommand_rows_of};
+//! Commands, and what their options say.
+ghost use Rattle.std.specs.Prelude.{◌≡◌, List, option_map};
+ghost use Rattle.std.specs.Result.{result_ok};
+ghost use Rattle.clap.specs.Words.{found_of, rows_of};
 ghost use Rattle.command_words.specs.Options.{Choice};
 ghost use Rattle.command_words.specs.Options as choices;
-ghost use Rattle.command_words.specs.Program.{SaysCommand, rows_by};
+ghost use Rattle.command_words.specs.Program.{rows_by};
 ghost use Rattle.command_words.specs.Command as spec;
+ghost use Rattle.command_words.specs.Reading.{Reads, home_by, logged_by, serving_by};
 
+use crate::faults::{LineFault, Wanted, WordFault};
 use crate::home::HomeWords;
 use crate::names;
-use crate::program::matches_of;
 use clap::ArgMatches;
 use m2m_names::read_digits;
-use resource_model::{ADMIN, BASE, CSE_ID, CSE_TYPE, SERVICE_PROVIDER};
-use std::alloc::{AllocError as OutOfMemory, Global};
+use resource_model::{ADMIN, BASE, CSE_ID, CSE_TYPE, Home, LAST_CSE_TYPE, SERVICE_PROVIDER};
+use std::alloc::Global;
 
 /// What a server writes into its log.
 #[derive(Clone, Copy, Debug, PartialEq, Eq)]
 pub enum Logged {
     /// A line for each request, and one for each fault.
     Requests,
+    /// A line for each fault, and one of figures, once a minute at most.
+    Figures,
     /// A line for each fault of a connection.
     Faults,
     Nothing,
@@ -42,6 +45,8 @@ pub enum Task<'a> {
     Http,
     /// To answer the lines of standard input.
     Replay,
+    /// To compare two entities, each of which lines of standard input prepare.
+    Twin,
     /// To serve many connections.
     Serve(Serving<'a>),
     /// To make so many requests, and to count what they are answered.
@@ -49,10 +54,10 @@ pub enum Task<'a> {
 }
 
 /// A task, and the home of the entity that it is for.
-#[derive(Clone, Copy, Debug)]
+#[derive(Debug, Drop)]
 pub struct Command<'a> {
     pub task: Task<'a>,
-    pub home: HomeWords<'a>,
+    pub home: Home,
 }
 
 /// The address at which a server listens that is told none.
@@ -67,46 +72,19 @@ const USUAL_WORKERS: u64 = 256;
 /// As many workers as a server can be told to have.
 const MOST_WORKERS: u64 = 4_096;
 
-/// As many requests as can be made.
-const MOST_MADE: u64 = 100_000;
-
-fn cse_type_said(said: Option<&str>) -> Option<i64>
-    ensures { result ≡ spec.cse_type_said (option_map (λ text. text.now) said.entry) }
-{
-    match said {
-        Some(text) => Some(read_digits(text.as_bytes())? as i64),
-        None => Some(CSE_TYPE),
-    }
-}
-
 /// What the option of this name says.
-fn option_value<'a>(name: &str, options: &ArgMatches<'a>) -> Option<&'a str>
+pub(crate) fn option_value<'a>(name: &str, options: &ArgMatches<'a>) -> Option<&'a str>
     ensures { (os : List Choice) → rows_of (found_of options.now) ≡ rows_by os
         → option_map (λ value. value.now) result ≡ choices.option_value name.now os }
 {
     options.get_str(name)
 }
 
-/// The home that options say.
-fn home_said<'a>(options: &ArgMatches<'a>) -> Option<HomeWords<'a>>
-    ensures { (os : List Choice) → rows_of (found_of options.now) ≡ rows_by os
-        → option_map spec.home_by result ≡ spec.home_said os }
-{
-    let cst = cse_type_said(option_value(names::TYPE, options))?;
-    Some(HomeWords {
-        sp: option_value(names::SP, options).unwrap_or(SERVICE_PROVIDER),
-        csi: option_value(names::ID, options).unwrap_or(CSE_ID),
-        base: option_value(names::BASE, options).unwrap_or(BASE),
-        cst,
-        admin: option_value(names::ADMIN, options).unwrap_or(ADMIN),
-    })
-}
-
 /// The count that a text says, which is at least 1 and at most this one.
-fn count_in(text: &[u8], most: u64) -> Option<u64>
+fn count_in(text: &str, most: u64) -> Option<u64>
     ensures { result ≡ spec.count_in text.now most }
 {
-    let count = read_digits(text)?;
+    let count = read_digits(text.as_bytes())?;
     if 1 <= count && count <= most {
         Some(count)
     } else {
@@ -114,58 +92,118 @@ fn count_in(text: &[u8], most: u64) -> Option<u64>
     }
 }
 
-fn accept_said(said: Option<&str>) -> Option<Option<u64>>
-    ensures { result ≡ spec.accept_said (option_map (λ text. text.now) said.entry) }
+/// The count that the value of an option says.
+pub(crate) fn count_said<'a>(
+    option: &'a str,
+    value: &'a str,
+    most: u64,
+) -> Result<u64, WordFault<'a>>
+    ensures { result_ok result ≡ spec.count_in value.now most }
 {
-    match said {
-        Some(text) => Some(Some(count_in(text.as_bytes(), MOST_ACCEPTED)?)),
-        None => Some(None),
+    match count_in(value, most) {
+        Some(count) => Ok(count),
+        None => Err(WordFault::Value {
+            option,
+            value,
+            wanted: Wanted::Count(most),
+        }),
     }
 }
 
-fn workers_said(said: Option<&str>) -> Option<u64>
-    ensures { result ≡ spec.workers_said (option_map (λ text. text.now) said.entry) }
+// ---- the home
+
+fn cse_type_said(said: Option<&str>) -> Result<i64, WordFault<'_>>
+    ensures { result_ok result ≡ spec.cse_type_said (option_map (λ text. text.now) said.entry) }
 {
     match said {
-        Some(text) => count_in(text.as_bytes(), MOST_WORKERS),
-        None => Some(USUAL_WORKERS),
+        Some(text) => Ok(count_said(names::TYPE, text, LAST_CSE_TYPE)? as i64),
+        None => Ok(CSE_TYPE),
+    }
+}
+
+/// What options say of a home of this type.
+fn home_words<'a>(cst: i64, options: &ArgMatches<'a>) -> HomeWords<'a>
+    ensures { (os : List Choice) → rows_of (found_of options.now) ≡ rows_by os
+        → home_by result ≡ spec.home_of_type cst os }
+{
+    HomeWords {
+        sp: option_value(names::SP, options).unwrap_or(SERVICE_PROVIDER),
+        csi: option_value(names::ID, options).unwrap_or(CSE_ID),
+        base: option_value(names::BASE, options).unwrap_or(BASE),
+        cst,
+        admin: option_value(names::ADMIN, options).unwrap_or(ADMIN),
+    }
+}
+
+/// The home that options say.
+pub(crate) fn home_said<'a>(alloc: Global, options: &ArgMatches<'a>) -> Result<Home, LineFault<'a>>
+    ensures { (os : List Choice) → rows_of (found_of options.now) ≡ rows_by os
+        → Reads (λ home. home) (spec.home_said os) result }
+{
+    let cst = cse_type_said(option_value(names::TYPE, options))?;
+    home_words(cst, options).home(alloc)
+}
+
+// ---- a server
+
+fn accept_said(said: Option<&str>) -> Result<Option<u64>, WordFault<'_>>
+    ensures { result_ok result ≡ spec.accept_said (option_map (λ text. text.now) said.entry) }
+{
+    match said {
+        Some(text) => Ok(Some(count_said(names::ACCEPT, text, MOST_ACCEPTED)?)),
+        None => Ok(None),
+    }
+}
+
+fn workers_said(said: Option<&str>) -> Result<u64, WordFault<'_>>
+    ensures { result_ok result ≡ spec.workers_said (option_map (λ text. text.now) said.entry) }
+{
+    match said {
+        Some(text) => count_said(names::WORKERS, text, MOST_WORKERS),
+        None => Ok(USUAL_WORKERS),
     }
 }
 
 /// What a text says that is to be logged.
-fn logged_in(text: &str) -> Option<Logged>
-    ensures { option_map spec.logged_by result ≡ spec.logged_in text.now }
+fn logged_in(text: &str) -> Result<Logged, WordFault<'_>>
+    ensures { option_map logged_by (result_ok result) ≡ spec.logged_in text.now }
 {
     if text == names::REQUESTS {
-        Some(Logged::Requests)
+        Ok(Logged::Requests)
+    } else if text == names::FIGURES {
+        Ok(Logged::Figures)
     } else if text == names::FAULTS {
-        Some(Logged::Faults)
+        Ok(Logged::Faults)
     } else if text == names::NOTHING {
-        Some(Logged::Nothing)
+        Ok(Logged::Nothing)
     } else {
-        None
+        Err(WordFault::Value {
+            option: names::LOG,
+            value: text,
+            wanted: Wanted::Logged,
+        })
     }
 }
 
-fn log_said(said: Option<&str>) -> Option<Logged>
-    ensures { option_map spec.logged_by result
+fn log_said(said: Option<&str>) -> Result<Logged, WordFault<'_>>
+    ensures { option_map logged_by (result_ok result)
         ≡ spec.log_said (option_map (λ text. text.now) said.entry) }
 {
     match said {
         Some(text) => logged_in(text),
-        None => Some(Logged::Faults),
+        None => Ok(Logged::Faults),
     }
 }
 
 /// The server that options say.
-fn serving_said<'a>(options: &ArgMatches<'a>) -> Option<Serving<'a>>
+pub(crate) fn serving_said<'a>(options: &ArgMatches<'a>) -> Result<Serving<'a>, WordFault<'a>>
     ensures { (os : List Choice) → rows_of (found_of options.now) ≡ rows_by os
-        → option_map spec.serving_by result ≡ spec.serving_said os }
+        → option_map serving_by (result_ok result) ≡ spec.serving_said os }
 {
     let accept = accept_said(option_value(names::ACCEPT, options))?;
     let workers = workers_said(option_value(names::WORKERS, options))?;
     let log = log_said(option_value(names::LOG, options))?;
-    Some(Serving {
+    Ok(Serving {
         listen: option_value(names::LISTEN, options).unwrap_or(USUAL_ADDRESS),
         accept,
         workers,
@@ -173,97 +211,19 @@ fn serving_said<'a>(options: &ArgMatches<'a>) -> Option<Serving<'a>>
     })
 }
 
-/// The task of this name, with its options.
-fn task_said<'a>(name: &str, options: &ArgMatches<'a>) -> Option<Task<'a>>
-    ensures { (os : List Choice) → rows_of (found_of options.now) ≡ rows_by os
-        → option_map spec.task_by result ≡ spec.task_said name.now os }
-{
-    if name == names::HTTP {
-        Some(Task::Http)
-    } else if name == names::REPLAY {
-        Some(Task::Replay)
-    } else if name == names::SERVE {
-        Some(Task::Serve(serving_said(options)?))
-    } else {
-        None
-    }
-}
+// ---- a journal
 
-fn command_said<'a>(name: &str, options: &ArgMatches<'a>) -> Option<Command<'a>>
-    ensures { (os : List Choice) → rows_of (found_of options.now) ≡ rows_by os
-        → option_map spec.command_by result ≡ spec.command_said name.now os }
+/// The file of a journal that an option names, if one does.
+pub(crate) fn file_said(said: Option<&str>) -> Result<Option<&str>, WordFault<'_>>
+    ensures { option_map (λ file. option_map (λ text. text.now) file) (result_ok result)
+        ≡ spec.file_said (option_map (λ text. text.now) said.entry) }
 {
-    let task = task_said(name, options)?;
-    let home = home_said(options)?;
-    Some(Command { task, home })
-}
-
-/// The command that was found.
-fn command_found<'a>(matches: &ArgMatches<'a>) -> Option<Command<'a>>
-    ensures { (said : Option spec.Command) → SaysCommand (subcommand_rows_of matches.now) said
-        → option_map spec.command_by result ≡ said }
-{
-    let (name, options) = matches.subcommand()?;
-    command_said(name, options)
-}
-
-/// The usual home.
-fn usual_home<'a>() -> HomeWords<'a>
-    ensures { spec.home_by result ≡ default_home }
-{
-    HomeWords {
-        sp: SERVICE_PROVIDER,
-        csi: CSE_ID,
-        base: BASE,
-        cst: CSE_TYPE,
-        admin: ADMIN,
-    }
-}
-
-/// The command that makes as many requests as a text says.
-fn making_said<'a>(text: &str) -> Option<Command<'a>>
-    ensures { option_map spec.command_by result ≡ spec.number_says (text.now ∷ []) }
-{
-    let requests = count_in(text.as_bytes(), MOST_MADE)?;
-    Some(Command {
-        task: Task::Generate(requests),
-        home: usual_home(),
-    })
-}
-
-/// What the words behind `gen` say: one number. `clap` isn't asked, as no option stands there.
-fn number_said<'a>(words: &[&str]) -> Option<Command<'a>>
-    ensures { option_map spec.command_by result
-        ≡ spec.number_says (map (λ word. word.now) words.now) }
-{
-    match words {
-        [text] => making_said(text),
-        _ => None,
-    }
-}
-
-/// What a name and options say.
-fn options_said<'a>(alloc: Global, words: &'a [&'a str]) -> Result<Option<Command<'a>>, OutOfMemory>
-    ensures { IfOk result (λ said. option_map spec.command_by said
-        ≡ spec.options_say (map (λ word. word.now) words.now)) }
-{
-    match matches_of(alloc, words)? {
-        Some(matches) => Ok(command_found(&matches)),
-        None => Ok(None),
-    }
-}
-
-/// What the words say: `gen` and a number, or the name of another command and then options that it
-/// takes. An `Err` is want of memory.
-pub fn read_command<'a>(
-    alloc: Global,
-    words: &'a [&'a str],
-) -> Result<Option<Command<'a>>, OutOfMemory>
-    ensures { IfOk result (λ said. option_map spec.command_by said
-        ≡ spec.words_say (map (λ word. word.now) words.now)) }
-{
-    match words {
-        [first, rest @ ..] if *first == names::GEN => Ok(number_said(rest)),
-        _ => options_said(alloc, words),
+    match said {
+        Some("") => Err(WordFault::Value {
+            option: names::JOURNAL,
+            value: "",
+            wanted: Wanted::File,
+        }),
+        other => Ok(other),
     }
 }

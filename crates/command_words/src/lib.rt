@@ -1,24 +1,32 @@
 //! The words of a command line, as they stand behind the program's name: what they ask for.
 //!
-//! `read_command` reads them with `clap`: the name of a command, and then its options in any order,
-//! each at most once, with the value behind an equals sign or in a word of its own that begins with
-//! no dash. `gen` has one number behind it, and `clap` isn't asked. What is read has the home of an
-//! entity as texts, and `HomeWords::home` makes a `Home` of them where each of them is admitted. A
-//! list of words is a command exactly where both give something (`command_in` of specs/Command),
-//! unless memory runs out.
+//! `read_line` reads them once. The first is the name of a command, and behind it stand the options
+//! that this command takes, in any order, each at most once, with the value behind an equals sign or
+//! in a word of its own that begins with no dash. `clap` reads these. `gen` has one number behind
+//! it, and `snapshot` the name of a file before its options. What is read is a command with the home
+//! of its entity, alone or over a journal, or a question about the program itself (`asked_in` of
+//! specs/Line). A list of words asks for something exactly where `read_line` gives it, unless memory
+//! runs out. Of all others it says which word can't stand there, and what was wanted.
 //!
 //! ```text
-//! let Some(command) = read_command(alloc, words)? else {
-//!     return Ok(None); // the words are no command
-//! };
-//! command.home.home(alloc)
+//! match read_line(alloc, words) {
+//!     Ok(Asked::Run(command)) => run(command.task, command.home),
+//!     Err(LineFault::Words(fault)) => say(fault), // `--workers 0: a number from 1 to 4096`
+//!     ..
+//! }
 //! ```
 #![tactic(auto)]
 
 mod command;
+mod faults;
+mod help;
 mod home;
+mod line;
 mod names;
+mod options;
 mod program;
 
-pub use command::{Command, Logged, Serving, Task, read_command};
-pub use home::HomeWords;
+pub use command::{Command, Logged, Serving, Task};
+pub use faults::{LineFault, Wanted, WordFault};
+pub use help::{HELP, VERSION};
+pub use line::{Asked, read_command, read_line};

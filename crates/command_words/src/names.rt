@@ -1,12 +1,28 @@
 //! The words that have a meaning of their own: the names of commands, and those of options.
 
+// ---- the commands
+
 pub(crate) const HTTP: &str = "http";
 
 pub(crate) const REPLAY: &str = "replay";
 
+pub(crate) const TWIN: &str = "twin";
+
 pub(crate) const SERVE: &str = "serve";
 
 pub(crate) const GEN: &str = "gen";
+
+pub(crate) const SNAPSHOT: &str = "snapshot";
+
+// ---- what the program is asked of itself
+
+pub(crate) const HELP: &str = "help";
+
+pub(crate) const HELP_OPTION: &str = "--help";
+
+pub(crate) const VERSION_OPTION: &str = "--version";
+
+// ---- the options that say a home
 
 /// The CSE-ID without its slash.
 pub(crate) const ID: &str = "--id";
@@ -19,6 +35,8 @@ pub(crate) const ADMIN: &str = "--admin";
 /// The CSE type.
 pub(crate) const TYPE: &str = "--type";
 
+// ---- those of a server
+
 /// Where a server listens.
 pub(crate) const LISTEN: &str = "--listen";
 /// How many connections a server accepts.
@@ -30,6 +48,13 @@ pub(crate) const LOG: &str = "--log";
 
 pub(crate) const REQUESTS: &str = "requests";
 
+pub(crate) const FIGURES: &str = "figures";
+
 pub(crate) const FAULTS: &str = "faults";
 
 pub(crate) const NOTHING: &str = "nothing";
+
+// ---- that of a CSE that is kept
+
+/// The file of the journal.
+pub(crate) const JOURNAL: &str = "--journal";

@@ -1,13 +1,14 @@
-//! The words as `clap` reads them.
-ghost use Rattle.std.specs.Prelude.{◌≡◌, None, IfOk, MatchOption, take, drop, map, false, codes};
+//! Options as `clap` reads them.
+ghost use Rattle.std.specs.Prelude.{◌≡◌, IfOk, take, drop, map, false, fold, codes};
 ghost use Rattle.std.specs.List.{list_any};
-ghost use Rattle.clap.specs.Words.{app_of, rule_of, subcommand_rows_of};
+ghost use Rattle.clap.specs.Words.{app_of, rule_of};
 ghost use Rattle.clap.specs.declared.builder.command.Command.TheViews.{out-Command as fields_of};
+ghost use Rattle.command_words.specs.Options.{options_in};
 ghost use Rattle.command_words.specs.Program as spec;
-ghost use Rattle.command_words.specs.Program.{SaysCommand};
-ghost use Rattle.command_words.specs.Command.{options_say};
+ghost use Rattle.command_words.specs.Program.{AreOptionNames, FindsOptions};
 
-use crate::names;
+use crate::faults::LineFault;
+use crate::options::option_fault;
 use clap::error::ErrorKind;
 use clap::{Arg, ArgAction, ArgMatches, Command};
 use std::alloc::{AllocError as OutOfMemory, Global};
@@ -59,43 +60,32 @@ fn with_option<'a>(
     name: &'a str,
 ) -> Result<Command<'a>, OutOfMemory>
     requires { take 2 name.now ≡ codes "--" }
-    ensures app { IfOk result (λ made. app_of made
+    ensures { IfOk result (λ made. app_of made
         ≡ spec.with_option (app_of command.entry) name.entry.now) }
-    ensures local { IfOk result (λ made.
-        (fields_of made).has_globals ≡ (fields_of command.entry).has_globals) }
 {
     command.arg(option(alloc, name))
 }
 
-/// A command with the options that say a home.
-fn homed<'a>(alloc: Global, name: &'a str) -> Result<Command<'a>, OutOfMemory>
-    ensures app { IfOk result (λ made. app_of made ≡ spec.homed name.entry.now) }
-    ensures local { IfOk result (λ made. (fields_of made).has_globals ≡ false) }
+/// The command with options of these names more.
+fn with_options<'a>(
+    alloc: Global,
+    command: Command<'a>,
+    names: &[&'a str],
+) -> Result<Command<'a>, OutOfMemory>
+    requires { AreOptionNames (map (λ name. name.now) names.now) }
+    ensures { IfOk result (λ made. app_of made
+        ≡ fold spec.with_option (app_of command.entry) (map (λ name. name.now) names.now)) }
 {
-    let command = Command::new(alloc, name);
-    let command = with_option(alloc, command, names::ID)?;
-    let command = with_option(alloc, command, names::BASE)?;
-    let command = with_option(alloc, command, names::SP)?;
-    let command = with_option(alloc, command, names::ADMIN)?;
-    with_option(alloc, command, names::TYPE)
+    match names {
+        [] => Ok(command),
+        [name, rest @ ..] => with_options(alloc, with_option(alloc, command, *name)?, rest),
+    }
 }
 
-/// The command with those that only a server takes, too.
-fn serving<'a>(alloc: Global) -> Result<Command<'a>, OutOfMemory>
-    ensures app { IfOk result (λ made. app_of made ≡ spec.serving) }
-    ensures local { IfOk result (λ made. (fields_of made).has_globals ≡ false) }
-{
-    let command = homed(alloc, names::SERVE)?;
-    let command = with_option(alloc, command, names::LISTEN)?;
-    let command = with_option(alloc, command, names::ACCEPT)?;
-    let command = with_option(alloc, command, names::WORKERS)?;
-    with_option(alloc, command, names::LOG)
-}
-
-/// The program with no command yet: no name of it stands among the words, and nothing asks for
-/// help.
-fn bare_program<'a>(alloc: Global) -> Command<'a>
-    ensures { app_of result ≡ spec.bare_program }
+/// A command with no option yet: no name of the program stands among the words, and nothing asks
+/// for help.
+fn bare_command<'a>(alloc: Global) -> Command<'a>
+    ensures { app_of result ≡ spec.bare_command }
 {
     Command::new(alloc, "cse")
         .no_binary_name(true)
@@ -103,37 +93,24 @@ fn bare_program<'a>(alloc: Global) -> Command<'a>
         .disable_help_subcommand(true)
 }
 
-/// The program with its commands.
-fn command_line<'a>(alloc: Global) -> Result<Command<'a>, OutOfMemory>
-    ensures { IfOk result (λ made. app_of made ≡ spec.program) }
-{
-    let http = homed(alloc, names::HTTP)?;
-    let replay = homed(alloc, names::REPLAY)?;
-    let serve = serving(alloc)?;
-    bare_program(alloc)
-        .subcommand(http)?
-        .subcommand(replay)?
-        .subcommand(serve)
-}
-
-/// What the words say to the program, if it takes them.
-pub(crate) fn matches_of<'a>(
+/// The options that words are, where each has one of these names and none stands twice.
+pub(crate) fn options_of<'a>(
     alloc: Global,
+    names: &[&'a str],
     words: &'a [&'a str],
-) -> Result<Option<ArgMatches<'a>>, OutOfMemory>
-    ensures { IfOk result (λ said.
-        MatchOption said (options_say (map (λ word. word.now) words.now) ≡ None)
-        (λ found. SaysCommand (subcommand_rows_of found)
-        (options_say (map (λ word. word.now) words.now)))) }
+) -> Result<ArgMatches<'a>, LineFault<'a>>
+    requires { AreOptionNames (map (λ name. name.now) names.now) }
+    ensures { FindsOptions (options_in (map (λ name. name.now) names.now)
+        (map (λ word. word.now) words.now)) result }
 {
     if has_stray(words) {
-        return Ok(None);
+        return Err(LineFault::Words(option_fault(names, words)));
     }
-    match command_line(alloc)?.try_get_matches_from(words) {
-        Ok(matches) => Ok(Some(matches)),
+    match with_options(alloc, bare_command(alloc), names)?.try_get_matches_from(words) {
+        Ok(matches) => Ok(matches),
         Err(error) => match error.kind() {
-            ErrorKind::OutOfMemory => Err(OutOfMemory),
-            _ => Ok(None),
+            ErrorKind::OutOfMemory => Err(LineFault::OutOfMemory),
+            _ => Err(LineFault::Words(option_fault(names, words))),
         },
     }
 }

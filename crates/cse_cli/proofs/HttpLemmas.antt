@@ -6,6 +6,7 @@ use Rattle.cse_server.specs.Outside.{EndsByFault, LinkTold, Outside, SinkTold, o
 use Rattle.turn_desk.specs.Entries.{Marked}
 use Rattle.cse_machine.specs.declared.event.Event.{Event}
 use Rattle.cse_machine.specs.declared.event.Outcome.{Outcome}
+use Rattle.desk_replies.specs.Rule.{plainly}
 use Rattle.cse_server.specs.Connection.{Serves}
 use Rattle.cse_server.specs.declared.connection.Ended.{Ended}
 use Rattle.cse_server.specs.declared.connection.Ended.TheVariants.{ReadFault as EndedReading, WriteFault as EndedWriting}
@@ -64,8 +65,8 @@ writes_of ended before now is h = record {
 pub serves_same : {S : Type 0} (grown : S → List (Marked Event Outcome) → S → Type 0) (seat before after : S)
     (left0 left1 : Option (List ℕ)) (old0 old1 : SinkTold) (given : Option (List ℕ)) (link : LinkTold) (new : Outside) (ended : Ended)
     → seat ≡ before → left0 ≡ left1 → old0 ≡ old1
-    → Serves grown seat after (outside left0 old0 given link) new ended → Serves grown before after (outside left1 old1 given link) new ended
+    → Serves plainly grown seat after (outside left0 old0 given link) new ended → Serves plainly grown before after (outside left1 old1 given link) new ended
 serves_same {S = S} grown seat before after left0 left1 old0 old1 given link new ended b l o h =
-    subst (λ (s : S). Serves grown s after (outside left1 old1 given link) new ended) b
-    (subst (λ (v : Option (List ℕ)). Serves grown seat after (outside v old1 given link) new ended) l
-    (subst (λ (v : SinkTold). Serves grown seat after (outside left0 v given link) new ended) o h))
+    subst (λ (s : S). Serves plainly grown s after (outside left1 old1 given link) new ended) b
+    (subst (λ (v : Option (List ℕ)). Serves plainly grown seat after (outside v old1 given link) new ended) l
+    (subst (λ (v : SinkTold). Serves plainly grown seat after (outside left0 v given link) new ended) o h))

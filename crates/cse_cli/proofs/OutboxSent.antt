@@ -12,8 +12,8 @@ use Rattle.notify_outbox.specs.contracts.item.Item as item
 use Rattle.notify_outbox.specs.contracts.queues.Queue as queue
 use Rattle.notify_outbox.specs.contracts.outbox.Outbox as outbox
 use Rattle.notify_outbox.specs.contracts.outbox.Outbox.TheInside as outbox_inside
-use Rattle.cse_server.proofs.Sent.{note_send}
-use Rattle.cse_server.proofs.ValuesSent.{text_send}
+use Rattle.desk_replies.proofs.Sent.{note_send}
+use Rattle.desk_replies.proofs.ValuesSent.{text_send}
 
 -- a linked list goes where its elements do
 module _ (T : RattleType) (s : IsSend T) where

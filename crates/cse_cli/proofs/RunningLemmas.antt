@@ -3,12 +3,14 @@ use Rattle.std.proofs.Common.{◌≢◌, ℕ, Option, Some, None, refl, inl, inr
 use Rattle.m2m_io.specs.declared.status.Status.{Status}
 use Rattle.m2m_io.specs.declared.status.Status.TheVariants.{Memory}
 use Rattle.resource_model.specs.Home.{HomeData}
-use Rattle.command_words.specs.Command.{Command, Serving, Task, http, replay, serve, generate}
+use Rattle.command_words.specs.Command.{Command, Serving, Task, http, replay, twin, serve, generate}
 use Rattle.cse_server.specs.Outside.{EndsByFault}
 use Rattle.entity_model.specs.Entity.{EntityData}
 use Rattle.entity_model.specs.Opening.{opening}
 use Rattle.primitive_replay.proofs.ItemLemmas.{replays_none}
 use Rattle.primitive_replay.proofs.TurnLemmas.{starved_first}
+use Rattle.twin_replay.specs.Sides.{starting}
+use Rattle.twin_replay.proofs.LineLemmas.{starved_first as starved_twins}
 use Rattle.cse_server.specs.declared.bench.Bench.{Bench}
 use Rattle.cse_cli.specs.Devices.{Devices}
 use Rattle.cse_cli.specs.Running.{RunsCommand, RunsTask}
@@ -32,6 +34,13 @@ module _ {S O C L D : Type 0} (served : Serving → EntityData → Bench C L →
       replays = replays_none (opening home 0) _ _ _ _ _ _ _ _ (starved_first (opening home 0) _ _ _ _);
       still = refl;
     };
+    no_usage = λ e. cc;
+    reads = no_fault (λ e. cc);
+    writes = no_fault (λ e. cc);
+    door = refl;
+  }
+  starved_task twin home devices = record {
+    done = record { twins = starved_twins (starting home) _ _; readings = refl; link = refl };
     no_usage = λ e. cc;
     reads = no_fault (λ e. cc);
     writes = no_fault (λ e. cc);

@@ -8,7 +8,7 @@ use Rattle.std.proofs.Common.{List, [], ◌∷◌}
 use Rattle.std.proofs.Crossing.{crosses}
 use Rattle.std.proofs.MapsCrossing as maps
 use Rattle.std.specs.contracts.hash.FoldHasher as fold
-use Rattle.cse_server.proofs.ValuesSent.{text_send, val_send}
+use Rattle.desk_replies.proofs.ValuesSent.{text_send, val_send}
 use Rattle.m2m_names.specs.contracts.attributes.Attr as attr
 use Rattle.m2m_names.specs.contracts.types.Ty as ty
 use Rattle.resource_model.specs.contracts.attrs.Attrs as attrs

@@ -1,4 +1,3 @@
-pub mod Words
 pub mod Run
 pub mod Serve
 pub mod Devices

@@ -13,9 +13,11 @@ use Rattle.resource_model.specs.Home.{HomeData}
 use Rattle.entity_model.specs.Entity.{EntityData}
 use Rattle.entity_model.specs.Opening.{opening}
 use Rattle.cse_machine.specs.Step.{Step}
+use Rattle.desk_replies.specs.Rule.{plainly}
 use Rattle.cse_server.specs.Connection.{Serves}
 use Rattle.cse_server.specs.Sending.{SendsItems}
 use Rattle.primitive_replay.specs.Script.{Replays}
+use Rattle.twin_replay.specs.Twins.{Twins, told}
 use Rattle.made_input.specs.Making.{Generates}
 use Rattle.cse_server.specs.declared.connection.Ended.{Ended}
 use Rattle.cse_server.specs.declared.connection.Ended.TheVariants.{Closed, NoFrame}
@@ -63,7 +65,7 @@ pub record ServesOpened (home : HomeData) (reading : ℕ) (old new : Outside) (s
   pub after : EntityData
   pub served : Outside
   pub ended : Ended
-  pub serves : Serves (IsOwnRun Step) (opening home reading) between old served ended
+  pub serves : Serves plainly (IsOwnRun Step) (opening home reading) between old served ended
   pub behind : EndsBehind ended between after served new status
 
 -- Memory ran out before the entity opened: nothing was read, written or exchanged.
@@ -90,6 +92,13 @@ RunsHttp home old new status = ServesStreams home old new status ⊎ RanOut old 
 pub record RunsReplay (home : HomeData) (old new : Outside) (status : Status) : Type 0 where
   pub replays : Replays (opening home 0) old new status
   pub still : new.readings ≡ old.readings
+
+-- The command `twin` at this home: the input is lines, by which two entities that opened at the
+-- reading 0 were prepared, compared and asked. The clock gave nothing, and nothing was exchanged.
+pub record RunsTwin (home : HomeData) (old new : Outside) (status : Status) : Type 0 where
+  pub twins : Twins home (told old.left old.out) (told new.left new.out) status
+  pub readings : new.readings ≡ old.readings
+  pub link : new.link ≡ old.link
 
 -- The command `gen`: so many made requests were put to an entity of their own, and what the output
 -- got is the line on them. Nothing was read or exchanged, and the clock gave nothing.

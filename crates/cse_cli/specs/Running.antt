@@ -3,11 +3,12 @@ use Rattle.std.specs.Prelude.{◌≡◌, ◌≢◌, ◌⊎◌, Option, Some, Non
 use Rattle.m2m_io.specs.declared.status.Status.{Status}
 use Rattle.m2m_io.specs.declared.status.Status.TheVariants.{Usage, ReadFault, WriteFault, Memory}
 use Rattle.resource_model.specs.Home.{HomeData}
-use Rattle.command_words.specs.Command.{Command, Serving, Task, http, replay, serve, generate}
+use Rattle.command_words.specs.Command.{Command, Serving, Task, http, replay, twin, serve}
+use Rattle.command_words.specs.Command.{generate}
 use Rattle.cse_server.specs.Outside.{EndsByFault, Outside}
 use Rattle.cse_server.specs.declared.bench.Bench.{Bench}
 use Rattle.cse_cli.specs.Devices.{Devices}
-use Rattle.cse_cli.specs.Run.{RunsGen, RunsHttp, RunsReplay}
+use Rattle.cse_cli.specs.Run.{RunsGen, RunsHttp, RunsReplay, RunsTwin}
 use Rattle.entity_model.specs.Entity.{EntityData}
 use Rattle.cse_cli.specs.Serve.{OpensServer}
 
@@ -42,14 +43,17 @@ module _ {S O C L D : Type 0} where
   -- A task was done at this home. With `http` an entity opens at the first reading of the clock,
   -- and the output gets exactly the replies that the machine gives the requests of the input, one
   -- after another, as far as the status says. With `replay` it opens at the reading 0, and the
-  -- output gets exactly the script of the lines of the input. With `serve` it opens at the first
-  -- reading of the clock, the door is opened where the words say, and its connections are `served`
-  -- by that entity until it gives no more. With `gen` the output gets exactly the line on the made
-  -- requests, which an entity with the default home takes that opens at the reading 0.
+  -- output gets exactly the script of the lines of the input. With `twin` two entities open at the
+  -- reading 0, and the output gets exactly whether an originator has the same sight of both, and
+  -- what comes of its requests in both. With `serve` an entity opens at the first reading of the
+  -- clock, the door is opened where the words say, and its connections are `served` by that entity
+  -- until it gives no more. With `gen` the output gets exactly the line on the made requests, which
+  -- an entity with the default home takes that opens at the reading 0.
   abbrev pub RunsTask : (Serving → EntityData → Bench C L → Bench C L → Type 0) → Task → HomeData
       → Devices S O C L D → Devices S O C L D → Status → Type 0
   RunsTask served http home old new status = RunsStreams (RunsHttp home) old new status
   RunsTask served replay home old new status = RunsStreams (RunsReplay home) old new status
+  RunsTask served twin home old new status = RunsStreams (RunsTwin home) old new status
   RunsTask served (serve serving) home old new status =
       RunsServer (served serving) serving home old new status
   RunsTask served (generate requests) home old new status =

@@ -1,127 +1,84 @@
 //! The command line.
-ghost use Rattle.std.specs.Prelude.{◌≡◌, ◌≤◌, Some, vec_len, map, option_map, IfOk};
+ghost use Rattle.std.specs.Prelude.{◌≡◌, ◌≤◌, vec_len, map};
 ghost use Rattle.m2m_io.specs.Status.{status_line};
 ghost use Rattle.m2m_io.specs.Told.{AppendsUnlessFault};
-ghost use Rattle.command_words.specs.Command.{command_in, task_by};
+ghost use Rattle.command_words.specs.Line.{command_in};
+ghost use Rattle.command_words.specs.Reading.{task_by};
 ghost use Rattle.cse_cli.specs.Devices.{devices_by};
-ghost use Rattle.cse_cli.specs.Running.{RunsCommand};
+ghost use Rattle.cse_cli.specs.Running.{RunsCommand, RunsTask};
 ghost use Rattle.cse_cli.specs.Serve.{ServesEntity};
-ghost use Rattle.cse_cli.specs.Words.{command_at};
 ghost use Rattle.cse_server.specs.Attending.{Attends, SeatGrows, SendsFrom, conn_tells, link_tells};
 ghost use Rattle.workers.specs.Gate.{door_tells};
 
 use crate::http::serve_streams;
 use crate::replay::replay_lines;
 use crate::serve::serve_door;
-use command_words::{Task, read_command};
+use crate::server::Server;
+use crate::twin::compare_lines;
+use command_words::{Command, Task, read_command};
 use cse_server::Bench;
 use m2m_io::{Clock, Door, Link, Sink, Source, Status};
 use made_input::generate;
-use std::alloc::{AllocError as OutOfMemory, Global};
+use std::alloc::Global;
 use std::sync::Wait;
 use std::thread::Threads;
 use std::time;
-use tree_model::Home;
 
-/// What the words ask for, and the home of the entity that it is for; None where they are no
-/// command.
-fn asked_by<'a>(
-    alloc: Global,
-    words: &'a [&'a str],
-) -> Result<Option<(Task<'a>, Home)>, OutOfMemory>
-    ensures { IfOk result (λ said. option_map (λ s. command_at (task_by s.0) s.1) said
-        ≡ command_in (map (λ word. word.now) words.now)) }
-{
-    let Some(command) = read_command(alloc, words)? else {
-        return Ok(None);
-    };
-    match command.home.home(alloc) {
-        Ok(Some(home)) => Ok(Some((command.task, home))),
-        Ok(None) => Ok(None),
-        Err(_) => Err(OutOfMemory),
-    }
-}
-
-/// Does a task at this home, and tells nobody how it ended.
-fn run_task<R, S: Source, O: Sink, D: Door + Send, C: Clock + Send, L: Link + Send>(
+/// Does a command that was read, and answers with the status and the door. The devices are those of
+/// `run`. Nobody is told how it ended.
+pub fn run_command<R, S: Source, O: Sink, D: Door + Send, C: Clock + Send, L: Link + Send>(
     rt: &R,
     alloc: Global,
-    task: Task,
-    home: Home,
+    command: Command,
     input: &mut S,
     out: &mut O,
-    door: D,
     first: &mut Bench<C, L>,
-    benches: Vec<Bench<C, L>>,
+    server: Server<D, C, L>,
 ) -> (Status, D)
 where
     R: Wait + Threads + time::Clock + Clone + Drop + Sync,
     C: Drop,
     L: Drop,
-    requires benches { 2 ≤ vec_len benches }
     ensures { let devices = devices_by S.left S.faults O.written O.puts O.faults C.readings
         (link_tells L.exchanges L.faults) (door_tells D.opened D.given D.ended D.faults) in
         let attends = Attends SeatGrows
         (conn_tells D.Conn.left D.Conn.written D.Conn.puts D.Conn.Source.faults
         D.Conn.Sink.faults) C.readings (link_tells L.exchanges L.faults) in
         let sends = SendsFrom SeatGrows C.readings (link_tells L.exchanges L.faults) in
-        RunsCommand (ServesEntity attends sends benches.items)
-        (Some (command_at (task_by task.entry) home))
-        (devices input.old out.old first.old door)
+        RunsTask (ServesEntity attends sends server.benches.items)
+        (task_by command.entry.task) command.entry.home
+        (devices input.old out.old first.old server.door)
         (devices input.new out.new first.new result.1) result.0 }
 {
+    let Command { task, home } = command;
+    let Server { door, benches } = server;
     match task {
         Task::Http => (serve_streams(alloc, home, input, out, first), door),
         Task::Replay => (replay_lines(alloc, home, input, out, first), door),
+        Task::Twin => (compare_lines(alloc, home, input, out), door),
         Task::Serve(serving) => serve_door(rt, alloc, home, serving, door, first, benches),
         Task::Generate(requests) => (generate(alloc, requests, out), door),
     }
 }
 
-/// Does what the words name, and tells nobody how it ended.
-fn run_words<'a, R, S: Source, O: Sink, D: Door + Send, C: Clock + Send, L: Link + Send>(
-    rt: &R,
-    alloc: Global,
-    words: &'a [&'a str],
-    input: &mut S,
-    out: &mut O,
-    door: D,
-    first: &mut Bench<C, L>,
-    benches: Vec<Bench<C, L>>,
-) -> (Status, D)
-where
-    R: Wait + Threads + time::Clock + Clone + Drop + Sync,
-    C: Drop,
-    L: Drop,
-    requires benches { 2 ≤ vec_len benches }
-    ensures { let devices = devices_by S.left S.faults O.written O.puts O.faults C.readings
-        (link_tells L.exchanges L.faults) (door_tells D.opened D.given D.ended D.faults) in
-        let attends = Attends SeatGrows
-        (conn_tells D.Conn.left D.Conn.written D.Conn.puts D.Conn.Source.faults
-        D.Conn.Sink.faults) C.readings (link_tells L.exchanges L.faults) in
-        let sends = SendsFrom SeatGrows C.readings (link_tells L.exchanges L.faults) in
-        RunsCommand (ServesEntity attends sends benches.items)
-        (command_in (map (λ word. word.now) words.now))
-        (devices input.old out.old first.old door)
-        (devices input.new out.new first.new result.1) result.0 }
+/// Says on `err` how a command ended, as a line, and hands that on.
+pub fn told<E: Sink, X>(err: &mut E, ended: (Status, X)) -> (Status, X)
+    ensures same { result ≡ ended }
+    ensures err { AppendsUnlessFault (E.written err.old) (E.written err.new)
+        (E.faults err.old) (E.faults err.new) (status_line result.0) }
 {
-    match asked_by(alloc, words) {
-        Ok(Some((task, home))) => {
-            run_task(rt, alloc, task, home, input, out, door, first, benches)
-        }
-        Ok(None) => (Status::Usage, door),
-        Err(_) => (Status::Memory, door),
-    }
+    let _ = ended.0.put_line(err);
+    ended
 }
 
 /// Runs the command that the words name, and answers with the status and the door. The words are
 /// those behind the program's name. `input` and `out` are the streams of a command that has one
 /// connection or one list of lines; `err` gets the text of the status as a line; `first` is the
 /// bench of such a command, and `benches` are those of the workers. `http` serves `input` and `out`
-/// as one connection, `replay` answers the lines of `input`, `serve` opens the door and serves its
-/// connections, each by a worker, and `gen` makes so many requests and writes a line on what they
-/// are answered. The options say the home of the entity, and at `serve` where the door is opened
-/// and how many connections are accepted.
+/// as one connection, `replay` answers the lines of `input`, `twin` compares two entities that
+/// these prepare, `serve` opens the door and serves its connections, each by a worker, and `gen`
+/// makes so many requests and writes a line on what they are answered. The options say the home of
+/// the entities, and at `serve` where the door is opened and how many connections are accepted.
 pub fn run<R, S: Source, O: Sink, E: Sink, D: Door + Send, C: Clock + Send, L: Link + Send>(
     rt: &R,
     alloc: Global,
@@ -157,7 +114,20 @@ where
     ensures err { AppendsUnlessFault (E.written err.old) (E.written err.new)
         (E.faults err.old) (E.faults err.new) (status_line result.0) }
 {
-    let (status, door) = run_words(rt, alloc, words, input, out, door, first, benches);
-    let _ = status.put_line(err);
-    (status, door)
+    match read_command(alloc, words) {
+        Ok(Some(command)) => told(
+            err,
+            run_command(
+                rt,
+                alloc,
+                command,
+                input,
+                out,
+                first,
+                Server { door, benches },
+            ),
+        ),
+        Ok(None) => told(err, (Status::Usage, door)),
+        Err(_) => told(err, (Status::Memory, door)),
+    }
 }

@@ -6,6 +6,7 @@ ghost use Rattle.entity_model.specs.Opening.{opening};
 ghost use Rattle.cse_cli.specs.Run.{EndsBehind, SendsBehind, ServesStreams};
 
 use cse_server::{Bench, Ended, Served, Wire, send_alone, serve_alone};
+use desk_replies::Plainly;
 use entity_model::Entity;
 use m2m_io::{Clock, Link, Sink, Source, Status};
 use resource_tree::IndexTree;
@@ -106,6 +107,7 @@ pub(crate) fn serve_streams<S: Source, O: Sink, C: Clock, L: Link>(
         &mut wire,
         &mut bench.clock,
         &mut bench.link,
+        &Plainly,
     );
     finish(alloc, &mut seat, bench, ended)
 }

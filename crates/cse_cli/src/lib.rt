@@ -1,9 +1,13 @@
 //! The program's command line over the world outside: `run` takes the words, the streams, the door
 //! and the benches, and answers with the status. The commands are `http`, which serves the input
 //! and the output as one connection of an entity, `replay`, which answers the lines of the input,
-//! `serve`, which serves the connections of the door, and `gen`, which makes requests of its own
-//! and writes one line on what they are answered. Callers see of each what `RunsCommand` says
-//! (specs/Running). `seed` gives what clients don't know, for tables of theirs.
+//! `twin`, which compares two entities that the lines of the input prepare, `serve`, which serves
+//! the connections of the door, and `gen`, which makes requests of its own and writes one line on
+//! what they are answered. Callers see of each what `RunsCommand` says (specs/Running). A program
+//! that has read its words itself hands `run_command` the command, of which `RunsTask` says the
+//! same, with the `Server` for one that serves. Commands over a journal share `told`, which says how
+//! a command ended, `benches_for`, which are the benches of a server, and `seed`, which clients
+//! don't know, for tables of theirs.
 //!
 //! ```text
 //! let words = ["serve", "--listen", "127.0.0.1:8080"];
@@ -16,6 +20,9 @@ mod command;
 mod http;
 mod replay;
 mod serve;
+mod server;
+mod twin;
 
-pub use command::run;
-pub use serve::seed;
+pub use command::{run, run_command, told};
+pub use serve::{benches_for, seed};
+pub use server::Server;

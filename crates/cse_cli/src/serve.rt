@@ -1,6 +1,6 @@
 //! The command `serve`.
 ghost use Rattle.std.specs.Prelude.{◌≡◌, ◌≢◌, ◌≤◌, ◌+◌, max, take, vec_len};
-ghost use Rattle.command_words.specs.Command.{serving_by};
+ghost use Rattle.command_words.specs.Reading.{serving_by};
 ghost use Rattle.cse_server.specs.Attending.{Attends, SeatGrows, SendsFrom, conn_tells, link_tells};
 ghost use Rattle.workers.specs.Gate.{door_tells};
 ghost use Rattle.cse_cli.specs.Serve.{OpensServer, ServesEntity, ServesObject, ServesOpen};
@@ -68,7 +68,7 @@ where
 }
 
 /// The benches of as many workers as the words say, and one more; fewer where there are no more.
-fn benches_for<C: Clock + Drop, L: Link + Drop>(
+pub fn benches_for<C: Clock + Drop, L: Link + Drop>(
     serving: Serving<'_>,
     mut benches: Vec<Bench<C, L>>,
 ) -> Vec<Bench<C, L>>

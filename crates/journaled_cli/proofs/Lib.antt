@@ -1,4 +1,3 @@
 pub mod KeptSent
 pub mod RunLemmas
 pub mod ServedLemmas
-pub mod SnapshotLemmas

@@ -1,4 +1,2 @@
-pub mod Words
-pub mod Saying
 pub mod Run
 pub mod Snapshot

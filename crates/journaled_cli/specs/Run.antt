@@ -19,6 +19,7 @@ use Rattle.entity_model.specs.Entity.{EntityData}
 use Rattle.journal_events.specs.Steps.{KeptEntityStep}
 use Rattle.journal_events.specs.declared.event.KeptEvent.{KeptEvent}
 use Rattle.journal_events.specs.declared.event.KeptOutcome.{KeptOutcome}
+use Rattle.desk_replies.specs.Rule.{plainly}
 use Rattle.cse_server.specs.Connection.{Serves}
 use Rattle.cse_server.specs.Outside.{LinkTold, Outside, outside, sink_told}
 use Rattle.cse_server.specs.declared.bench.Bench.{Bench}
@@ -27,7 +28,8 @@ use Rattle.cse_server.specs.declared.connection.Ended.TheVariants.{Closed, NoFra
 use Rattle.cse_server.specs.declared.connection.Ended.TheVariants.{ReadFault as EndedReading}
 use Rattle.cse_server.specs.declared.connection.Ended.TheVariants.{WriteFault as EndedWriting}
 use Rattle.cse_server.specs.declared.connection.Ended.TheVariants.{Memory as EndedStarved}
-use Rattle.command_words.specs.Command.{Command, Serving, Task, http, replay, serve, generate}
+use Rattle.command_words.specs.Command.{Serving, Task, http, replay, twin, serve}
+use Rattle.command_words.specs.Command.{generate}
 use Rattle.cse_cli.specs.Run.{status_behind}
 use Rattle.cse_cli.specs.Serve.{ServesObject}
 use Rattle.turn_desk.specs.declared.shared.DeskSeat.{DeskSeat}
@@ -100,7 +102,7 @@ pub record ServesStreams {F : Type 0} (turns : ℕ → Turn KeptEvent → KeptDa
   pub served : Outside
   pub ended : Ended
   pub sent : Status
-  pub serves : Serves (AnswersGrown (IsOwnRun turns)) opened between old served ended
+  pub serves : Serves plainly (AnswersGrown (IsOwnRun turns)) opened between old served ended
   pub behind : EndsBehind (KeptGrown (IsOwnRun turns)) ended between after served new sent
   pub status_is : status ≡ status_of after.journal.is_failed sent
 
@@ -181,6 +183,7 @@ module _ {F : Type 0} (tells : Type 0) (seen : F → List ℕ) (may_leave : F �
   DoesTask served http opened old new status =
       ServesStreams (KeptTurns tells seen may_leave moment left_since) opened old new status
   DoesTask served replay opened old new status = (status ≡ Usage) × (new ≡ old)
+  DoesTask served twin opened old new status = (status ≡ Usage) × (new ≡ old)
   DoesTask served (serve serving) opened old new status =
       ServesDoor (served serving) opened old new status
   DoesTask served (generate requests) opened old new status = (status ≡ Usage) × (new ≡ old)
@@ -193,12 +196,3 @@ module _ {F : Type 0} (tells : Type 0) (seen : F → List ℕ) (may_leave : F �
       ((opened : KeptData EntityData F) × OpensAt tells seen may_leave home file opened
       × DoesTask served task opened old new status × (back ≡ None))
       ⊎ ServesNone tells seen may_leave moment left_since home file old new back status
-
-  -- What is done for words over a journal: for those that are no command, which are usage unless
-  -- memory runs out for reading them, nothing. The file is given back then.
-  abbrev pub RunsWords : (Serving → KeptData EntityData F → Status → Type 0) → Option Command → F
-      → Outside → Outside → Option F → Status → Type 0
-  RunsWords served None file old new back status =
-      ((status ≡ Usage) ⊎ (status ≡ Memory)) × (new ≡ old) × (back ≡ Some file)
-  RunsWords served (Some command) file old new back status =
-      RunsTask served command.task command.home file old new back status

@@ -1,13 +1,12 @@
 -- What the command `snapshot` does.
-use Rattle.std.specs.Prelude.{◌≡◌, ◌≢◌, ◌⊎◌, ℕ, List, Option, Some, None, IfSome}
+use Rattle.std.specs.Prelude.{◌≡◌, ◌≢◌, ℕ, List, Option, Some, None, IfSome}
 use Rattle.m2m_io.specs.declared.status.Status.{Status}
-use Rattle.m2m_io.specs.declared.status.Status.TheVariants.{Done, Memory, Usage, WriteFault}
+use Rattle.m2m_io.specs.declared.status.Status.TheVariants.{Done, Memory, WriteFault}
 use Rattle.kept_file.specs.Crashes.{LeavesOnly}
 use Rattle.journal_file.specs.Gates.{KeepsText}
 use Rattle.journal_lines.specs.declared.deed.Dated.{Dated}
 use Rattle.resource_model.specs.Home.{HomeData}
 use Rattle.entity_model.specs.Entity.{EntityData}
-use Rattle.command_words.specs.Command.{Command}
 use Rattle.journal_opening.specs.Journals.{IsJournalOf, made_of}
 use Rattle.journal_opening.specs.Snapshots.{KeepsMaking}
 use Rattle.journal_snapshot.specs.Shortening.{IsRefusedFor, LeavesSnapshot}
@@ -39,9 +38,3 @@ module _ {N : Type 0} (tells : Type 0) (seen : N → List ℕ) (may_leave : N �
         → LeavesOnly moment left_since old new (KeepsMaking home (made_of deeds base))
     pub refused : tells → IfSome fault (IsRefusedFor home (seen old))
     pub stays : IfSome fault (λ f. f ≢ why.Failed → new ≡ old)
-
-  -- What is done for words: for those that are no command, which are usage unless memory runs out
-  -- for reading them, nothing.
-  abbrev pub RunsSnapshot : Option Command → N → N → Status → Type 0
-  RunsSnapshot None old new status = ((status ≡ Usage) ⊎ (status ≡ Memory)) × (new ≡ old)
-  RunsSnapshot (Some command) old new status = Shortens command.home old new status

@@ -8,6 +8,7 @@ ghost use Rattle.journaled_cli.specs.Run.{KeptTurns, SendsBehind, ServesStreams,
 
 use crate::kept::KeptEntity;
 use cse_server::{Bench, Ended, Wire};
+use desk_replies::Plainly;
 use journaled_server::{send_kept_alone, serve_kept_alone};
 use kept_file::NamedFile;
 use kept_object::KeptObject;
@@ -101,6 +102,7 @@ pub(crate) fn serve_streams<F: NamedFile + Drop, S: Source, O: Sink, C: Clock, L
         &mut wire,
         &mut bench.clock,
         &mut bench.link,
+        &Plainly,
     );
     let status = finish(alloc, &mut seat, bench, ended);
     status_of(seat.into_object(), status)

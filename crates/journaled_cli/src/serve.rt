@@ -1,6 +1,6 @@
 //! The command `serve` over a journal.
-ghost use Rattle.std.specs.Prelude.{◌≡◌, ◌⊎◌, ◌≤◌, ◌+◌, IfSome, max, take, vec_len};
-ghost use Rattle.command_words.specs.Command.{serving_by};
+ghost use Rattle.std.specs.Prelude.{◌≡◌, ◌⊎◌, ◌≤◌, IfSome, vec_len};
+ghost use Rattle.command_words.specs.Reading.{serving_by};
 ghost use Rattle.cse_server.specs.Attending.{conn_tells, link_tells};
 ghost use Rattle.journaled_cli.specs.Run.{LeavesServed, ServesByWords, ServesKept, StaysShut};
 ghost use Rattle.journaled_server.specs.Serving.{AttendsKept, SendsKept, TurnsGrow};
@@ -8,7 +8,9 @@ ghost use Rattle.journaled_server.specs.Serving.{AttendsKept, SendsKept, TurnsGr
 use crate::http::status_of;
 use crate::kept::KeptEntity;
 use command_words::Serving;
-use cse_server::{Bench, ServeFault};
+use cse_cli::benches_for;
+use cse_server::{Attended, Bench, HttpBinding, ServeFault};
+use desk_replies::Plainly;
 use journal_events::{KeptEvent, KeptOutcome};
 use journaled_server::{LossDoor, LossSignal, serve_journaled};
 use kept_desk::{Report, Turn};
@@ -58,8 +60,9 @@ where
         return None;
     };
     let door = LossDoor::new(door, raised);
-    match serve_journaled(
-        rt, alloc, &desk, seat, door, accept, &losses, first, benches,
+    let binding = HttpBinding { replier: Plainly };
+    match serve_journaled::<R, O, LossDoor<D>, C, L, Attended<D::Conn>, HttpBinding<Plainly>>(
+        rt, alloc, &desk, seat, door, accept, &losses, first, benches, &binding,
     ) {
         Ok((seat, _)) => Some((desk.close(seat), Status::Done)),
         Err((seat, _, ServeFault::DoorFault)) => Some((desk.close(seat), Status::ReadFault)),
@@ -100,21 +103,6 @@ where
         Some((left, status)) => status_of(left, status),
         None => Status::Memory,
     }
-}
-
-/// The benches of as many workers as the words say, and one more; fewer where there are no more.
-fn benches_for<C: Clock + Drop, L: Link + Drop>(
-    serving: Serving<'_>,
-    mut benches: Vec<Bench<C, L>>,
-) -> Vec<Bench<C, L>>
-    requires { 2 ≤ vec_len benches }
-    ensures some { 2 ≤ vec_len result }
-    ensures front { result.items
-        ≡ take (max 1 serving.entry.workers + 1) benches.items }
-{
-    let workers = serving.workers.max(1) as usize;
-    benches.truncate(workers.saturating_add(1));
-    benches
 }
 
 /// Opens the door where the words say, and serves its connections by an entity that is kept, by as

@@ -1,11 +1,10 @@
 //! The command `snapshot`: a journal is replaced by the snapshot of the entity that it makes.
-ghost use Rattle.std.specs.Prelude.{◌≡◌, Some, map};
-ghost use Rattle.command_words.specs.Command.{command_in};
-ghost use Rattle.journaled_cli.specs.Snapshot.{RunsSnapshot, Shortens, status_for};
+ghost use Rattle.std.specs.Prelude.{◌≡◌, Some};
+ghost use Rattle.journaled_cli.specs.Snapshot.{Shortens, status_for};
 ghost use Rattle.journal_opening.specs.Opening.{StaysAsItWas};
 ghost use Rattle.kept_file.specs.Crashes.{LeavesThis};
 
-use crate::command::{asked_by, reason, refusal};
+use crate::command::{reason, refusal};
 use journal_snapshot::{KeptName, ShorteningFault, shorten};
 use kept_file::KeptFile;
 use m2m_io::{Sink, Status};
@@ -76,41 +75,12 @@ fn shorten_named<F: KeptFile + Drop, N: KeptName<F>, E: Sink>(
     }
 }
 
-/// Does what the words name to the journal in the file that has a name, and tells nobody how that
-/// ended.
-fn snapshot_by_words<F: KeptFile + Drop, N: KeptName<F>, E: Sink>(
-    alloc: Global,
-    words: &[&str],
-    name: &str,
-    place: &mut N,
-    file: &mut F,
-    seed: u64,
-    err: &mut E,
-) -> Status
-    requires tells { N.tells → F.tells }
-    requires kept { F.tells → LeavesThis (F.seen file.old) (F.may_leave file.old) }
-    requires named { N.tells → LeavesThis (N.seen place.old) (N.may_leave place.old) }
-    requires same { N.tells → N.seen place.old ≡ F.seen file.old }
-    ensures runs { RunsSnapshot N.tells N.seen N.may_leave N.moment N.left_since
-        (command_in (map (λ word. word.now) words.now)) place.old place.new result }
-    ensures file { F.tells
-        → StaysAsItWas F.seen F.may_leave F.moment F.left_since file.old file.new }
-{
-    match asked_by(alloc, words) {
-        Ok(Some((_, home))) => {
-            shorten_named::<F, N, E>(alloc, home, name, place, file, seed, err)
-        }
-        Ok(None) => Status::Usage,
-        Err(_) => Status::Memory,
-    }
-}
-
-/// Runs the command `snapshot`: opens the entity of the home that the words name at the journal in
-/// the file that has a name, and puts a file with the snapshot of the entity in its place. The name
-/// is told where that isn't done. The entity's tables hang on the seed.
+/// Runs the command `snapshot`: opens the entity of a home at the journal in the file that has a
+/// name, and puts a file with the snapshot of the entity in its place. The name is told where that
+/// isn't done. The entity's tables hang on the seed.
 pub fn run_snapshot<F: KeptFile + Drop, N: KeptName<F>, E: Sink>(
     alloc: Global,
-    words: &[&str],
+    home: Home,
     name: &str,
     place: &mut N,
     file: &mut F,
@@ -125,16 +95,15 @@ pub fn run_snapshot<F: KeptFile + Drop, N: KeptName<F>, E: Sink>(
     requires same { N.tells → N.seen place.old ≡ F.seen file.old }
 
     // The journal is replaced by a snapshot of the entity that it makes. A crash at any moment
-    // leaves one that makes that entity. What is refused stays as it was, and for words that are no
-    // command nothing is done.
-    ensures runs { RunsSnapshot N.tells N.seen N.may_leave N.moment N.left_since
-        (command_in (map (λ word. word.now) words.now)) place.old place.new result }
+    // leaves one that makes that entity. What is refused stays as it was.
+    ensures runs { Shortens N.tells N.seen N.may_leave N.moment N.left_since home
+        place.old place.new result }
 
     // The file that was played has each byte that it had, at each moment.
     ensures file { F.tells
         → StaysAsItWas F.seen F.may_leave F.moment F.left_since file.old file.new }
 {
-    let status = snapshot_by_words::<F, N, E>(alloc, words, name, place, file, seed, err);
+    let status = shorten_named::<F, N, E>(alloc, home, name, place, file, seed, err);
     let _ = status.put_line(err);
     status
 }

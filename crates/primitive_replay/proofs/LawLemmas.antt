@@ -1,7 +1,7 @@
 -- Lines that a stream begins with, compared.
 use Rattle.std.proofs.Common.{◌≡◌, ℕ, ◌+◌, ◌≤◌, List, [], ◌∷◌, ◌++◌, length, Option, Some, None, refl, sym, ap, subst, ◌∙◌, arith}
 use Rattle.primitive_replay.specs.Laws.{LinesAreHeardInOneWay, NothingIsHeardBehindABadLine}
-use Rattle.primitive_replay.specs.Lines.{line_at}
+use Rattle.primitive_replay.specs.Lines.{line_at, line_read}
 use Rattle.primitive_replay.specs.Stream.{AreLines}
 use Rattle.primitive_replay.specs.declared.line.Line.{Line}
 
@@ -35,24 +35,24 @@ one_way (t ∷ ts) (u ∷ us) (x ∷ xs) [] place as' bs a b e size = absurd b
 one_way (t ∷ ts) (u ∷ us) (x ∷ xs) (y ∷ ys) place as' bs a b e size =
     let first = first_same t u (ts ++ as') (us ++ bs) e in
     joined x y xs ys
-    (same_line (line_at place t) (line_at place u) x y (ap (line_at place) first) a.0 b.0)
+    (same_line (line_at line_read place t) (line_at line_read place u) x y (ap (line_at line_read place) first) a.0 b.0)
     (one_way ts us xs ys (place + 1) as' bs a.1 b.1 (rest_same t u (ts ++ as') (us ++ bs) e) (omega (arith, size)))
 
 bad_stops : (ts us : List (List ℕ)) (xs ys : List Line) (place : ℕ) (later bs : List (List ℕ)) (text : List ℕ)
-    → AreLines place ts xs → AreLines place us ys → ts ++ text ∷ later ≡ us ++ bs → line_at (place + length xs) text ≡ None → length ys ≤ length xs
+    → AreLines place ts xs → AreLines place us ys → ts ++ text ∷ later ≡ us ++ bs → line_at line_read (place + length xs) text ≡ None → length ys ≤ length xs
 bad_stops ts us xs [] place later bs text a b e bad = omega arith
 bad_stops [] [] [] (y ∷ ys) place later bs text a b e bad = absurd b
 bad_stops [] (u ∷ us) [] (y ∷ ys) place later bs text a b e bad =
     let here : place + length {A = Line} [] ≡ place = omega arith in
-    absurd (no_none (line_at place u) (line_at place text) y (ap (line_at place) (sym (first_same text u later (us ++ bs) e))) b.0
-    (subst (λ (n : ℕ). line_at n text ≡ None) here bad))
+    absurd (no_none (line_at line_read place u) (line_at line_read place text) y (ap (line_at line_read place) (sym (first_same text u later (us ++ bs) e))) b.0
+    (subst (λ (n : ℕ). line_at line_read n text ≡ None) here bad))
 bad_stops [] us (x ∷ xs) (y ∷ ys) place later bs text a b e bad = absurd a
 bad_stops (t ∷ ts) us [] (y ∷ ys) place later bs text a b e bad = absurd a
 bad_stops (t ∷ ts) [] (x ∷ xs) (y ∷ ys) place later bs text a b e bad = absurd b
 bad_stops (t ∷ ts) (u ∷ us) (x ∷ xs) (y ∷ ys) place later bs text a b e bad =
     let next : place + length (x ∷ xs) ≡ (place + 1) + length xs = omega arith in
     let rest = bad_stops ts us xs ys (place + 1) later bs text a.1 b.1 (rest_same t u (ts ++ text ∷ later) (us ++ bs) e)
-    (subst (λ (n : ℕ). line_at n text ≡ None) next bad) in
+    (subst (λ (n : ℕ). line_at line_read n text ≡ None) next bad) in
     omega (arith, rest)
 
 pub heard_in_one_way : LinesAreHeardInOneWay

@@ -12,22 +12,22 @@ use Rattle.primitive_replay.specs.declared.front.Front.TheVariants.{TooLong, End
 use Rattle.primitive_replay.proofs.StandLemmas.{whole_bad, last_bad, long_bad}
 
 -- a line that ends here was judged, and isn't taken
-pub ended_fault : (f : LineFault) (place : ℕ) (held : List ℕ) (stream left : Option (List ℕ)) → end_of held < length held
-    → GivesLine (Err f) (line_at place (strip_carriage_return (take (end_of held) held)))
-    → Keeps stream (prepend_known held left) → NextIs place (Err f) stream (prepend_known held left)
-ended_fault Bad place held stream left found gives kept = (kept, whole_bad place stream held left kept found gives)
-ended_fault ReadFault place held stream left found gives kept = absurd gives
-ended_fault OutOfMemory place held stream left found gives kept = kept
+pub ended_fault : {L : Type 0} (form : List ℕ → Option L) (f : LineFault) (place : ℕ) (held : List ℕ) (stream left : Option (List ℕ)) → end_of held < length held
+    → GivesLine (Err f) (line_at form place (strip_carriage_return (take (end_of held) held)))
+    → Keeps stream (prepend_known held left) → NextIs form place (Err f) stream (prepend_known held left)
+ended_fault form Bad place held stream left found gives kept = (kept, whole_bad form place stream held left kept found gives)
+ended_fault form ReadFault place held stream left found gives kept = absurd gives
+ended_fault form OutOfMemory place held stream left found gives kept = kept
 
 -- the same of the last line
-pub last_fault : (f : LineFault) (place : ℕ) (held : List ℕ) (stream left : Option (List ℕ)) → HasNoEnd held → held ≢ []
-    → GivesLine (Err f) (line_at place held)
-    → Keeps stream (prepend_known held left) → IsAtEnd left → NextIs place (Err f) stream (prepend_known held left)
-last_fault Bad place held stream left none some gives kept end = (kept, last_bad place stream held left kept none some end gives)
-last_fault ReadFault place held stream left none some gives kept end = absurd gives
-last_fault OutOfMemory place held stream left none some gives kept end = kept
+pub last_fault : {L : Type 0} (form : List ℕ → Option L) (f : LineFault) (place : ℕ) (held : List ℕ) (stream left : Option (List ℕ)) → HasNoEnd held → held ≢ []
+    → GivesLine (Err f) (line_at form place held)
+    → Keeps stream (prepend_known held left) → IsAtEnd left → NextIs form place (Err f) stream (prepend_known held left)
+last_fault form Bad place held stream left none some gives kept end = (kept, last_bad form place stream held left kept none some end gives)
+last_fault form ReadFault place held stream left none some gives kept end = absurd gives
+last_fault form OutOfMemory place held stream left none some gives kept end = kept
 
 -- a line that is too long
-pub long_fault : (place : ℕ) (held : List ℕ) (stream left : Option (List ℕ)) → Keeps stream (prepend_known held left)
-    → IsFront (Ok TooLong) held left → NextIs place (Err Bad) stream (prepend_known held left)
-long_fault place held stream left kept front = (kept, long_bad place stream held left kept front.0 front.1)
+pub long_fault : {L : Type 0} (form : List ℕ → Option L) (place : ℕ) (held : List ℕ) (stream left : Option (List ℕ)) → Keeps stream (prepend_known held left)
+    → IsFront (Ok TooLong) held left → NextIs form place (Err Bad) stream (prepend_known held left)
+long_fault form place held stream left kept front = (kept, long_bad form place stream held left kept front.0 front.1)

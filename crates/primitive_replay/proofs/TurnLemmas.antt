@@ -12,12 +12,12 @@ use Rattle.primitive_json.specs.declared.request.RequestParts.{RequestParts}
 use Rattle.turn_desk.specs.Entries.{entry_of}
 use Rattle.entity_model.specs.Entity.{EntityData}
 use Rattle.cse_machine.specs.declared.event.Event.TheVariants.{Ask as AskEvent}
-use Rattle.cse_server.proofs.RepliesLemmas.{gives-one}
-use Rattle.cse_server.proofs.LinkLemmas.{carries_nothing}
+use Rattle.desk_replies.proofs.RepliesLemmas.{gives-one}
 use Rattle.cse_server.proofs.PutLemmas.{puts_none, puts_nothing}
 use Rattle.primitive_replay.specs.Front.{HasNoEnd, held_limit}
 use Rattle.primitive_replay.specs.Script.{AsksLines, StopsRightly, WritesReplies, reply_line, lines_of_replies}
-use Rattle.primitive_replay.specs.Stream.{BeginsBadly, BeginsWithLines, LeadsTo, NextIs, HoldsLittle}
+use Rattle.primitive_replay.specs.Lines.{line_at, line_read}
+use Rattle.primitive_replay.specs.Stream.{BeginsBadly, BeginsWithLines, BeginsWithTexts, LeadsOver, LeadsTo, NextIs, HoldsLittle, TakesOff}
 use Rattle.primitive_replay.specs.Way.{RepliesTo, ReplaysFrom, ReplaysUpTo, WritesOn, WritesText, TakesLine, fault_status}
 use Rattle.primitive_replay.specs.declared.fault.LineFault.{LineFault}
 use Rattle.primitive_replay.specs.declared.fault.LineFault.TheVariants.{Bad, ReadFault as Unread, OutOfMemory as Starved}
@@ -36,7 +36,7 @@ asks_nothing reading e told = record {
   readings_are = refl;
   events_are = refl;
   gives = refl;
-  link = carries_nothing told;
+  link = refl;
 }
 
 pub takes_empty : (reading : ℕ) (e : EntityData) (told : LinkTold) (out : SinkTold) → TakesLine reading reading e e told told out out Empty None
@@ -49,7 +49,7 @@ takes_empty reading e told out = record {
     readings_are = refl;
     events_are = refl;
     gives = refl;
-    link = carries_nothing told;
+    link = refl;
   };
   reads = refl;
   said = puts_none out;
@@ -65,7 +65,7 @@ takes_reading reading moment e told out = record {
     readings_are = refl;
     events_are = refl;
     gives = refl;
-    link = carries_nothing told;
+    link = refl;
   };
   reads = refl;
   said = puts_none out;
@@ -107,10 +107,30 @@ takes_request reading before after told more old new request reply status a said
 
 -- ---- what is left
 
-little : (held left : List ℕ) → length held ≤ held_limit → HoldsLittle (held ++ left) left
+pub little : (held left : List ℕ) → length held ≤ held_limit → HoldsLittle (held ++ left) left
 little held left few = record { held = held; rest_is = refl; few = few }
 
 -- ---- a line that was taken
+
+one_begins : (place : ℕ) (text bytes rest : List ℕ) (line : Line) → line_at line_read place text ≡ Some line
+    → BeginsWithTexts bytes (text ∷ []) rest → BeginsWithLines place bytes (line ∷ []) rest
+one_begins place text bytes rest line is begins = record {
+  front = begins.front;
+  texts = text ∷ [];
+  bytes_are = begins.bytes_are;
+  texts_are = begins.texts_are;
+  each = (is, tt);
+}
+
+one_over : (place : ℕ) (text : List ℕ) (old new : Option (List ℕ)) (line : Line) → line_at line_read place text ≡ Some line
+    → LeadsOver (text ∷ []) old new → LeadsTo place old (line ∷ []) new
+one_over place text None new line is over = tt
+one_over place text (Some bytes) None line is over = absurd over
+one_over place text (Some bytes) (Some rest) line is over = one_begins place text bytes rest line is over
+
+-- the stream was one line that is replayed
+pub one_leads : (place : ℕ) (old new : Option (List ℕ)) (line : Line) → TakesOff line_read place line old new → LeadsTo place old (line ∷ []) new
+one_leads place old new line takes = one_over place takes.text old new line takes.is takes.stream
 
 pub line_goes : (place reading now : ℕ) (before after : EntityData) (old on : Outside) (line : Line)
     → LeadsTo place old.left (line ∷ []) on.left
@@ -226,40 +246,41 @@ done_ends place reading e stream left out told end over = record {
 
 -- what is left where no line was taken
 fault_stops : (fault : LineFault) (place next : ℕ) (bytes held left : List ℕ) → next ≡ place → bytes ≡ held ++ left → length held ≤ held_limit
-    → (fault ≡ Bad → BeginsBadly place bytes) → (fault ≡ Unread → HasNoEnd held)
+    → (fault ≡ Bad → BeginsBadly line_read place bytes) → (fault ≡ Unread → HasNoEnd held)
     → StopsRightly next (fault_status fault place) bytes (Some left)
 fault_stops Bad place next bytes held left same is few bad none =
-    (sym same, subst (λ (n : ℕ). BeginsBadly n bytes) (sym same) (bad refl), record { held = held; rest_is = is; few = few })
+    (sym same, subst (λ (n : ℕ). BeginsBadly line_read n bytes) (sym same) (bad refl), record { held = held; rest_is = is; few = few })
 fault_stops Unread place next bytes held left same is few bad none =
     record { reads = record { held = held; rest_is = is; few = few }; none = none refl }
 fault_stops Starved place next bytes held left same is few bad none =
     record { held = held; rest_is = is; few = few }
 
 -- a stream that no line was taken from
-fault_keeps : (fault : LineFault) (place : ℕ) (old now : Option (List ℕ)) → NextIs place (Err fault) old now → Keeps old now
-fault_keeps Bad place old now next = next.0
-fault_keeps Unread place old now next = next
-fault_keeps Starved place old now next = next
+pub fault_keeps : {L : Type 0} (form : List ℕ → Option L) (fault : LineFault) (place : ℕ) (old now : Option (List ℕ)) → NextIs form place (Err fault) old now → Keeps old now
+fault_keeps form Bad place old now next = next.0
+fault_keeps form Unread place old now next = next
+fault_keeps form Starved place old now next = next
 
-fault_bad : (fault : LineFault) (place : ℕ) (bytes : List ℕ) (now : Option (List ℕ)) → NextIs place (Err fault) (Some bytes) now → fault ≡ Bad → BeginsBadly place bytes
-fault_bad Bad place bytes now next e = next.1
-fault_bad Unread place bytes now next e = cc
-fault_bad Starved place bytes now next e = cc
+pub fault_bad : {L : Type 0} (form : List ℕ → Option L) (fault : LineFault) (place : ℕ) (bytes : List ℕ) (now : Option (List ℕ)) → NextIs form place (Err fault) (Some bytes) now → fault ≡ Bad
+    → BeginsBadly form place bytes
+fault_bad form Bad place bytes now next e = next.1
+fault_bad form Unread place bytes now next e = cc
+fault_bad form Starved place bytes now next e = cc
 
 fault_ends_on : (fault : LineFault) (place : ℕ) (stream : Option (List ℕ)) (held : List ℕ) (left : Option (List ℕ))
-    → length held ≤ held_limit → NextIs place (Err fault) stream (prepend_known held left) → (fault ≡ Unread → HasNoEnd held)
+    → length held ≤ held_limit → NextIs line_read place (Err fault) stream (prepend_known held left) → (fault ≡ Unread → HasNoEnd held)
     → IfSome stream (EndsOn place (fault_status fault place) [] left)
 fault_ends_on fault place None held left few next none = tt
-fault_ends_on fault place (Some bytes) held None few next none = absurd (fault_keeps fault place (Some bytes) None next)
+fault_ends_on fault place (Some bytes) held None few next none = absurd (fault_keeps line_read fault place (Some bytes) None next)
 fault_ends_on fault place (Some bytes) held (Some ys) few next none = (
   bytes,
   still_begins place bytes,
-  fault_stops fault place (place + length {A = Line} []) bytes held ys (omega arith) (sym (fault_keeps fault place (Some bytes) (Some (held ++ ys)) next)) few
-      (fault_bad fault place bytes (Some (held ++ ys)) next) none,
+  fault_stops fault place (place + length {A = Line} []) bytes held ys (omega arith) (sym (fault_keeps line_read fault place (Some bytes) (Some (held ++ ys)) next)) few
+      (fault_bad line_read fault place bytes (Some (held ++ ys)) next) none,
 )
 
 pub fault_ends : (fault : LineFault) (place reading : ℕ) (e : EntityData) (stream : Option (List ℕ)) (held : List ℕ) (left : Option (List ℕ)) (out : SinkTold) (told : LinkTold)
-    → length held ≤ held_limit → NextIs place (Err fault) stream (prepend_known held left) → (fault ≡ Unread → HasNoEnd held)
+    → length held ≤ held_limit → NextIs line_read place (Err fault) stream (prepend_known held left) → (fault ≡ Unread → HasNoEnd held)
     → ReplaysFrom place reading e e (outside stream out None told) (outside left out None told) (fault_status fault place)
 fault_ends fault place reading e stream held left out told few next none = record {
   heard = [];

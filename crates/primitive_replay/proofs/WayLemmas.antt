@@ -17,9 +17,9 @@ use Rattle.entity_model.specs.Entity.{EntityData}
 use Rattle.cse_machine.specs.Step.{Step}
 use Rattle.cse_machine.specs.declared.event.Event.TheVariants.{Ask as AskEvent}
 use Rattle.cse_machine.specs.declared.event.Outcome.{Outcome}
-use Rattle.cse_server.specs.Replies.{GivesReplies}
-use Rattle.cse_server.proofs.RepliesLemmas.{gives-append}
-use Rattle.cse_server.proofs.LinkLemmas.{Carries-append}
+use Rattle.desk_replies.specs.Replies.{GivesReplies}
+use Rattle.desk_replies.proofs.RepliesLemmas.{gives-append}
+use Rattle.desk_replies.proofs.LinkLemmas.{CarriesEach-append}
 use Rattle.cse_server.proofs.PutLemmas.{Puts-append}
 use Rattle.primitive_replay.specs.Script.{request_on, requests_on, next_reading, reading_behind, readings_on, AsksLines, reply_line, lines_of_replies, WritesAllButLast, WritesPartOfLast, WritesReplies, StopsRightly}
 use Rattle.primitive_replay.specs.Stream.{AreLines, BeginsWithLines, LeadsTo}
@@ -123,7 +123,7 @@ asks-append reading now before between after t t' t'' xs ys reads a b = record {
   gives = subst (λ (os : List Outcome). GivesReplies (requests_on (xs ++ ys)) os (a.replies ++ b.replies) (a.carried ++ b.carried))
       (sym (map-append (λ e. e.outcome) a.history b.history))
       (gave-append xs ys (outcomes_of a.history) (outcomes_of b.history) a.replies b.replies a.carried b.carried a.gives b.gives);
-  link = Carries-append a.carried b.carried t t' t'' a.link b.link;
+  link = CarriesEach-append a.carried b.carried t t' t'' a.link b.link;
 }
 
 -- ---- what is written

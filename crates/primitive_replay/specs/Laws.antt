@@ -1,5 +1,6 @@
 -- Laws of the lines of a stream.
 use Rattle.std.specs.Prelude.{◌≡◌, ℕ, ◌+◌, ◌≤◌, List, length}
+use Rattle.primitive_replay.specs.Lines.{line_read}
 use Rattle.primitive_replay.specs.Stream.{BeginsBadly, BeginsWithLines}
 use Rattle.primitive_replay.specs.declared.line.Line.{Line}
 
@@ -15,5 +16,5 @@ LinesAreHeardInOneWay =
 abbrev pub NothingIsHeardBehindABadLine : Type 0
 NothingIsHeardBehindABadLine =
     (bytes rest left : List ℕ) (heard other : List Line)
-    → BeginsWithLines 1 bytes heard rest → BeginsBadly (1 + length heard) rest
+    → BeginsWithLines 1 bytes heard rest → BeginsBadly line_read (1 + length heard) rest
     → BeginsWithLines 1 bytes other left → length other ≤ length heard

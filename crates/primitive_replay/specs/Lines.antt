@@ -1,6 +1,6 @@
--- The lines of `replay`: what each of them is, and which are bad. The lines of a text are those
--- that Rust's `lines` gives: LF ends a line, one CR before it isn't part of the line, and the last
--- line may lack its end.
+-- Lines of a form: what each of them is, and which are bad; and the form of the lines of `replay`.
+-- The lines of a text are those that Rust's `lines` gives: LF ends a line, one CR before it isn't
+-- part of the line, and the last line may lack its end.
 use Rattle.std.specs.Prelude.{◌≡◌, ℕ, ◌==◌, nat_le, ◌&&◌, List, [], ◌∷◌, length, Option}
 use Rattle.std.specs.Prelude.{Some, None, Result, Ok, Err, if◌then◌else◌, option_map}
 use Rattle.std.specs.Prelude.{option_and_then, ⊤}
@@ -38,14 +38,14 @@ line_read (b ∷ text) =
     if b == 64 then option_map Reading (number_spelled text)
     else option_map Ask (request_of_text (b ∷ text))
 
--- what the line at a place, from 1, is: none where it is bad, as it has none of these forms, or too
--- many bytes, or stands behind the last line that there may be
-abbrev pub line_at : ℕ → List ℕ → Option Line
-line_at place text =
-    if nat_le place most_lines && nat_le (length text) line_limit then line_read text else None
+-- what the line at a place, from 1, is, where lines have this form: none where it is bad, as it
+-- hasn't the form, or has too many bytes, or stands behind the last line that there may be
+abbrev pub line_at : {L : Type 0} → (List ℕ → Option L) → ℕ → List ℕ → Option L
+line_at form place text =
+    if nat_le place most_lines && nat_le (length text) line_limit then form text else None
 
 -- what a line is told to be, unless memory runs out
-abbrev pub GivesLine : Result Line LineFault → Option Line → Type 0
+abbrev pub GivesLine : {L : Type 0} → Result L LineFault → Option L → Type 0
 GivesLine (Ok line) told = told ≡ Some line
 GivesLine (Err Bad) told = told ≡ None
 GivesLine (Err ReadFault) told = ⊥

@@ -4,7 +4,7 @@ use Rattle.std.specs.Prelude.{None, IfSome, codes}
 use Rattle.std.specs.List.{filter_map, flat_map}
 use Rattle.std.specs.Io.KnownBytes.{IsAtEnd}
 use Rattle.m2m_io.specs.Link.{Carrying}
-use Rattle.cse_server.specs.Outside.{Carries, LinkTold, Outside, Puts, PutsPart, SinkTold}
+use Rattle.cse_server.specs.Outside.{LinkTold, Outside, Puts, PutsPart, SinkTold}
 use Rattle.m2m_io.specs.declared.status.Status.{Status}
 use Rattle.m2m_io.specs.declared.status.Status.TheVariants.{Done, Usage, BadLine, ReadFault}
 use Rattle.m2m_io.specs.declared.status.Status.TheVariants.{WriteFault, Memory, BadStream}
@@ -22,7 +22,8 @@ use Rattle.notify_outbox.specs.declared.item.Item.{Item}
 use Rattle.entity_model.specs.Entity.{EntityData}
 use Rattle.cse_machine.specs.History.{History, HistoryLeaves}
 use Rattle.cse_machine.specs.declared.event.Event.TheVariants.{Ask as AskEvent}
-use Rattle.cse_server.specs.Replies.{GivesReplies}
+use Rattle.desk_replies.specs.Replies.{CarriesEach, GivesReplies}
+use Rattle.primitive_replay.specs.Lines.{line_read}
 use Rattle.primitive_replay.specs.Stream.{BeginsWithLines, BeginsBadly, HoldsLittle, HoldsNoLine}
 use Rattle.primitive_replay.specs.declared.line.Line.{Line}
 use Rattle.primitive_replay.specs.declared.line.Line.TheVariants.{Empty, Reading, Ask}
@@ -69,7 +70,7 @@ pub record AsksLines (reading : ℕ) (before after : EntityData)
   pub readings_are : readings_of history ≡ readings_on reading heard
   pub events_are : events_of history ≡ map AskEvent (requests_on heard)
   pub gives : GivesReplies (requests_on heard) (outcomes_of history) replies carried
-  pub link : Carries carried told more
+  pub link : CarriesEach carried told more
 
 -- ---- what is written
 
@@ -187,7 +188,7 @@ abbrev pub StopsRightly : ℕ → Status → List ℕ → Option (List ℕ) → 
 StopsRightly place Done rest now = (rest ≡ []) × IsAtEnd now
 StopsRightly place Usage rest now = ⊥
 StopsRightly place (BadLine n) rest now =
-    (n ≡ place) × BeginsBadly place rest × IfSome now (HoldsLittle rest)
+    (n ≡ place) × BeginsBadly line_read place rest × IfSome now (HoldsLittle rest)
 StopsRightly place ReadFault rest now = IfSome now (HoldsNoLine rest)
 StopsRightly place WriteFault rest now = IfSome now (HoldsLittle rest)
 StopsRightly place Memory rest now = IfSome now (HoldsLittle rest)

@@ -2,7 +2,7 @@
 use Rattle.std.specs.Prelude.{◌≡◌, ℕ, ◌+◌, List, [], ◌∷◌, ◌++◌, length, Option, Some, None}
 use Rattle.std.specs.Prelude.{IfSome}
 use Rattle.m2m_io.specs.Link.{Carrying}
-use Rattle.cse_server.specs.Outside.{Carries, LinkTold, Outside, Puts, PutsPart, SinkTold}
+use Rattle.cse_server.specs.Outside.{LinkTold, Outside, Puts, PutsPart, SinkTold}
 use Rattle.m2m_io.specs.declared.status.Status.{Status}
 use Rattle.m2m_io.specs.declared.status.Status.TheVariants.{Done, Usage, BadLine, ReadFault}
 use Rattle.m2m_io.specs.declared.status.Status.TheVariants.{WriteFault, Memory, BadStream}
@@ -13,7 +13,7 @@ use Rattle.entity_model.specs.Entity.{EntityData}
 use Rattle.cse_machine.specs.Step.{Step}
 use Rattle.cse_machine.specs.declared.event.Event.TheVariants.{Ask as AskEvent}
 use Rattle.cse_machine.specs.declared.event.Outcome.{Outcome}
-use Rattle.cse_server.specs.Replies.{GivesReply}
+use Rattle.desk_replies.specs.Replies.{CarriesEach, GivesReply}
 use Rattle.primitive_replay.specs.Script.{AsksLines, StopsRightly, WritesAllButLast}
 use Rattle.primitive_replay.specs.Script.{WritesPartOfLast, WritesReplies, WritesScript}
 use Rattle.primitive_replay.specs.Script.{lines_of_items, lines_of_replies, next_reading}
@@ -38,7 +38,7 @@ pub record RepliesTo (reading : ℕ) (before : EntityData) (request : RequestPar
   pub carried : List Carrying
   pub step : Step reading (AskEvent request) before outcome after
   pub gives : GivesReply request outcome reply carried
-  pub link : Carries carried told more
+  pub link : CarriesEach carried told more
 
 -- what was written of a text: all of it by one put, and else a part of it, or nothing where memory
 -- ran out

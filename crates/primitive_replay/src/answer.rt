@@ -7,7 +7,7 @@ ghost use Rattle.primitive_replay.specs.Script.{reply_line};
 ghost use Rattle.primitive_replay.specs.Way.{RepliesTo, WritesText};
 
 use cse_machine::{Event, Outcome, step};
-use cse_server::{bare_reply, reply_onward};
+use desk_replies::{bare_reply, reply_onward};
 use entity_model::Entity;
 use m2m_io::{Link, Sink, Status};
 use m2m_names::Rsc;
@@ -67,7 +67,7 @@ fn write_reply_line(alloc: Global, text: &mut Vec<u8>, reply: Reply) -> Result<(
 }
 
 /// Writes a line by one call of the sink. None where it was written.
-pub(crate) fn put_line<O: Sink>(out: &mut O, line: &[u8]) -> Option<Status>
+pub fn put_line<O: Sink>(out: &mut O, line: &[u8]) -> Option<Status>
     ensures said { WritesText result line.now
         (sink_told (O.written out.old) (O.puts out.old))
         (sink_told (O.written out.new) (O.puts out.new)) }

@@ -4,7 +4,7 @@ use std::alloc::AllocError;
 
 /// Why no line was read.
 #[derive(Clone, Copy, Debug, PartialEq, Eq)]
-pub(crate) enum LineFault {
+pub enum LineFault {
     /// The line has none of its forms, or is one too many.
     Bad,
     /// The source failed: its count of faults rose in the call.

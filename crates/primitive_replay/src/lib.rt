@@ -6,6 +6,9 @@
 //! leaves in the outbox (`specs/Script`); what a line is, and which is bad (`specs/Lines`); and why
 //! it ended.
 //!
+//! Who answers lines of another form takes them by `next_line`, which is given that form
+//! (`LineForm`): its limits and its ends of lines are the same.
+//!
 //! ```text
 //! let home = Home::with_defaults(alloc)?;
 //! let status = replay(alloc, home, input, out, link);
@@ -24,6 +27,11 @@ mod next;
 mod replaying;
 mod request_text;
 
+pub use answer::put_line;
+pub use fault::LineFault;
 pub use laws::a_stream_has_its_lines_in_one_way;
-pub use line::{LINE_LIMIT, MOST_LINES};
-pub use replaying::replay;
+pub use line::{LINE_LIMIT, Line, LineForm, MOST_LINES, line_read};
+pub use line_buffer::LineBuffer;
+pub use next::next_line;
+pub use replaying::{fault_status, replay};
+pub use request_text::push_request;

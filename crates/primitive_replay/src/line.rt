@@ -1,5 +1,5 @@
 //! What a line is.
-ghost use Rattle.std.specs.Prelude.{◌≡◌, IfOk, option_map};
+ghost use Rattle.std.specs.Prelude.{◌≡◌, ℕ, IfOk, List, Option, option_map};
 ghost use Rattle.primitive_json.specs.Kinds.{number_spelled};
 ghost use Rattle.primitive_replay.specs.Lines as spec;
 ghost use Rattle.primitive_replay.specs.Lines.{GivesLine};
@@ -15,9 +15,25 @@ pub const MOST_LINES: u64 = 1_000_000;
 /// The most bytes of a line, its end not counted.
 pub const LINE_LIMIT: usize = 131_072;
 
-/// What a line is.
+/// The form that lines have.
+pub trait LineForm {
+    type Line: Drop;
+
+    /// What a text is as a line; none where it hasn't the form.
+    ghost reads: { Self → List ℕ → Option Self.Line };
+
+    fn read_line(
+        &self,
+        alloc: Global,
+        scratch: &mut Scratch,
+        text: &[u8],
+    ) -> Result<Option<Self::Line>, OutOfMemory>
+        ensures { IfOk result (λ line. line ≡ reads self.now text.now) };
+}
+
+/// What a line is that is replayed.
 #[derive(Drop)]
-pub(crate) enum Line {
+pub enum Line {
     /// Nothing stands on it.
     Empty,
     /// The reading of the clock from there on, in seconds since 1970.
@@ -59,7 +75,12 @@ fn request_line(
     }
 }
 
-fn line_read(alloc: Global, scratch: &mut Scratch, text: &[u8]) -> Result<Option<Line>, OutOfMemory>
+/// What a text is as a line that is replayed.
+pub fn line_read(
+    alloc: Global,
+    scratch: &mut Scratch,
+    text: &[u8],
+) -> Result<Option<Line>, OutOfMemory>
     ensures { IfOk result (λ line. line ≡ spec.line_read text.now) }
 {
     if text.is_empty() {
@@ -72,19 +93,39 @@ fn line_read(alloc: Global, scratch: &mut Scratch, text: &[u8]) -> Result<Option
     }
 }
 
+/// The form of the lines that are replayed.
+#[derive(Clone, Copy, Debug)]
+pub(crate) struct ReplayForm;
+
+impl LineForm for ReplayForm {
+    type Line = Line;
+
+    ghost reads = { λ _ text. spec.line_read text };
+
+    fn read_line(
+        &self,
+        alloc: Global,
+        scratch: &mut Scratch,
+        text: &[u8],
+    ) -> Result<Option<Line>, OutOfMemory> {
+        line_read(alloc, scratch, text)
+    }
+}
+
 /// What the line at this place is, if it isn't bad.
-pub(crate) fn line_at(
+pub(crate) fn line_at<F: LineForm>(
     alloc: Global,
+    form: &F,
     scratch: &mut Scratch,
     place: u64,
     text: &[u8],
-) -> Result<Line, LineFault>
-    ensures { GivesLine result (spec.line_at place text.now) }
+) -> Result<F::Line, LineFault>
+    ensures { GivesLine result (spec.line_at (F.reads form.now) place text.now) }
 {
     if place > MOST_LINES || text.len() > LINE_LIMIT {
         return Err(LineFault::Bad);
     }
-    match line_read(alloc, scratch, text)? {
+    match form.read_line(alloc, scratch, text)? {
         Some(line) => Ok(line),
         None => Err(LineFault::Bad),
     }

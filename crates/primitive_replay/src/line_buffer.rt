@@ -22,7 +22,7 @@ const ROOM: usize = SHORT + PIECE;
 /// The bytes that were read and are not yet taken. Of those that are taken some stay at the front
 /// until room is needed. There is room for all of them from the start.
 #[derive(Debug, Drop)]
-pub(crate) struct LineBuffer {
+pub struct LineBuffer {
     bytes: Vec<u8>,
     start: usize,
     piece: Vec<u8>,
@@ -71,7 +71,7 @@ fn make_room(bytes: &mut Vec<u8>, start: &mut usize) -> Result<(), AllocError>
 
 impl LineBuffer {
     /// With room for the longest line.
-    pub(crate) fn new(alloc: Global) -> Result<LineBuffer, AllocError>
+    pub fn new(alloc: Global) -> Result<LineBuffer, AllocError>
         ensures { IfOk result (λ held. held ≡ []) }
     {
         Ok(LineBuffer {

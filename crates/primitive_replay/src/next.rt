@@ -10,7 +10,7 @@ ghost use Rattle.primitive_replay.specs.Stream.{NextIs};
 
 use crate::fault::LineFault;
 use crate::front::{Front, settle};
-use crate::line::{Line, line_at};
+use crate::line::{LineForm, line_at};
 use crate::line_buffer::LineBuffer;
 use m2m_io::Source;
 use m2m_value::Scratch;
@@ -28,23 +28,30 @@ fn without_return(text: &[u8]) -> &[u8]
 }
 
 /// Takes the line that ends at this place of the bytes held, behind which anything may be left.
-fn take_ended(
+fn take_ended<F: LineForm>(
     alloc: Global,
+    form: &F,
     scratch: &mut Scratch,
     held: &mut LineBuffer,
     place: u64,
     end: usize,
-) -> Result<Option<Line>, LineFault>
+) -> Result<Option<F::Line>, LineFault>
     requires end { end ≡ end_of held.old }
     requires within { end < length held.old }
     ensures next { (stream left : Option (List ℕ)) → Keeps stream (prepend_known held.old left)
-        → NextIs place result stream (prepend_known held.new left) }
+        → NextIs (F.reads form.now) place result stream (prepend_known held.new left) }
     ensures place { IfOk result (λ line. IsSome line → place ≤ most_lines) }
     ensures some { result ≢ Ok None }
     ensures few { length held.new ≤ held_limit }
     ensures other { result ≢ Err LineFault.ReadFault }
 {
-    match line_at(alloc, scratch, place, without_return(&held.bytes()[..end])) {
+    match line_at(
+        alloc,
+        form,
+        scratch,
+        place,
+        without_return(&held.bytes()[..end]),
+    ) {
         Ok(line) => {
             held.skip(end + 1);
             Ok(Some(line))
@@ -54,16 +61,18 @@ fn take_ended(
 }
 
 /// Takes all bytes held as the last line, behind which nothing is left.
-fn take_last(
+fn take_last<F: LineForm>(
     alloc: Global,
+    form: &F,
     scratch: &mut Scratch,
     held: &mut LineBuffer,
     place: u64,
-) -> Result<Option<Line>, LineFault>
+) -> Result<Option<F::Line>, LineFault>
     requires none { HasNoEnd held.old }
     requires some { held.old ≢ [] }
     ensures next { (stream left : Option (List ℕ)) → Keeps stream (prepend_known held.old left)
-        → IsAtEnd left → NextIs place result stream (prepend_known held.new left) }
+        → IsAtEnd left
+        → NextIs (F.reads form.now) place result stream (prepend_known held.new left) }
     ensures place { IfOk result (λ line. IsSome line → place ≤ most_lines) }
     ensures some { result ≢ Ok None }
     ensures few { length held.new ≤ held_limit }
@@ -71,7 +80,7 @@ fn take_last(
 {
     let text = held.bytes();
     let len = text.len();
-    match line_at(alloc, scratch, place, text) {
+    match line_at(alloc, form, scratch, place, text) {
         Ok(line) => {
             held.skip(len);
             Ok(Some(line))
@@ -81,42 +90,44 @@ fn take_last(
 }
 
 /// Takes the line that stands at the front.
-fn take_front(
+fn take_front<F: LineForm>(
     alloc: Global,
+    form: &F,
     scratch: &mut Scratch,
     held: &mut LineBuffer,
     place: u64,
     front: Front,
-) -> Result<Option<Line>, LineFault>
+) -> Result<Option<F::Line>, LineFault>
     requires front { (left : Option (List ℕ)) × IsFront (Ok front) held.old left }
     requires few { length held.old ≤ held_limit }
     ensures next { (stream left : Option (List ℕ)) → Keeps stream (prepend_known held.old left)
         → IsFront (Ok front) held.old left
-        → NextIs place result stream (prepend_known held.new left) }
+        → NextIs (F.reads form.now) place result stream (prepend_known held.new left) }
     ensures place { IfOk result (λ line. IsSome line → place ≤ most_lines) }
     ensures end { result ≡ Ok None → front ≡ Front.End }
     ensures few { length held.new ≤ held_limit }
     ensures other { result ≢ Err LineFault.ReadFault }
 {
     match front {
-        Front::Whole(end) => take_ended(alloc, scratch, held, place, end),
-        Front::Last => take_last(alloc, scratch, held, place),
+        Front::Whole(end) => take_ended(alloc, form, scratch, held, place, end),
+        Front::Last => take_last(alloc, form, scratch, held, place),
         Front::TooLong => Err(LineFault::Bad),
         Front::End => Ok(None),
     }
 }
 
-/// Takes the line that stands next on a stream, at this place, from 1; none at the end. The stream
-/// is the bytes held, and then those that the source has left. A read is made only while the bytes
-/// held have no whole line.
-pub(crate) fn next_line<S: Source>(
+/// Takes the line of this form that stands next on a stream, at this place, from 1; none at the
+/// end. The stream is the bytes held, and then those that the source has left. A read is made only
+/// while the bytes held have no whole line.
+pub fn next_line<F: LineForm, S: Source>(
     alloc: Global,
+    form: &F,
     scratch: &mut Scratch,
     held: &mut LineBuffer,
     src: &mut S,
     place: u64,
-) -> Result<Option<Line>, LineFault>
-    ensures next { NextIs place result (prepend_known held.old (S.left src.old))
+) -> Result<Option<F::Line>, LineFault>
+    ensures next { NextIs (F.reads form.now) place result (prepend_known held.old (S.left src.old))
         (prepend_known held.new (S.left src.new)) }
     ensures place { IfOk result (λ line. IsSome line → place ≤ most_lines) }
     ensures end { result ≡ Ok None → IsAtEnd (S.left src.new) }
@@ -125,7 +136,7 @@ pub(crate) fn next_line<S: Source>(
     ensures faults { CountsFault LineFault.ReadFault result (S.faults src.old) (S.faults src.new) }
 {
     match settle(held, src) {
-        Ok(front) => take_front(alloc, scratch, held, place, front),
+        Ok(front) => take_front(alloc, form, scratch, held, place, front),
         Err(fault) => Err(fault),
     }
 }

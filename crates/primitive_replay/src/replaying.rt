@@ -11,7 +11,7 @@ ghost use Rattle.primitive_replay.specs.Way.{ReplaysFrom, ReplaysUpTo, TakesLine
 use crate::answer::{put_reply, put_request};
 use crate::fault::LineFault;
 use crate::items::finish;
-use crate::line::{Line, MOST_LINES};
+use crate::line::{Line, MOST_LINES, ReplayForm};
 use crate::line_buffer::LineBuffer;
 use crate::next::next_line;
 use entity_model::Entity;
@@ -55,7 +55,7 @@ fn take_line<T: Tree, O: Sink, L: Link>(
 }
 
 /// How it ends where no line was read at this place.
-fn fault_status(fault: LineFault, place: u64) -> Status
+pub fn fault_status(fault: LineFault, place: u64) -> Status
     ensures { result ≡ fault_status fault place }
 {
     match fault {
@@ -94,7 +94,7 @@ fn replay_next<T: Tree, S: Source, O: Sink, L: Link>(
     ensures writes { EndsByFault (Some Status.WriteFault) result
         (O.faults out.old) (O.faults out.new) }
 {
-    match next_line(alloc, scratch, held, input, place) {
+    match next_line(alloc, &ReplayForm, scratch, held, input, place) {
         Ok(Some(line)) => take_line(alloc, entity, reading, room, out, link, line),
         Ok(None) => Some(Status::Done),
         Err(fault) => Some(fault_status(fault, place)),

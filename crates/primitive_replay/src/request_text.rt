@@ -102,11 +102,7 @@ fn push_written(alloc: Global, text: &mut Vec<u8>, request: Request) -> Result<(
 }
 
 /// Appends the compact text of a request. Of a Notify nothing is copied first.
-pub(crate) fn push_request(
-    alloc: Global,
-    text: &mut Vec<u8>,
-    request: Request,
-) -> Result<(), OutOfMemory>
+pub fn push_request(alloc: Global, text: &mut Vec<u8>, request: Request) -> Result<(), OutOfMemory>
     ensures { OnOk result (text.new.items ≡ text.old.items ++ text_of (written_request request)) }
 {
     let parts = request.into_parts();

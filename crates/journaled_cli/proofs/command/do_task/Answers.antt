@@ -15,14 +15,17 @@ returns-in-Serve g c =
       left = refl;
       out = refl;
       serves = ⊎_elim (λ served. inl served)
-          (λ shut. inr (shut_outside (λ (b : Bench g.row.C.Denot g.row.L.Denot). outside (g.S.Source.left c.args.input.now)
-          (sink_told (g.O.Sink.written c.args.out.now) (g.O.Sink.puts c.args.out.now)) (g.C.Clock.readings b.clock)
-          (link_told (g.L.Link.exchanges b.link) (g.L.Link.faults b.link))) c.args.first.now c.serve_door.new.first c.serve_door.result shut)) c.serve_door.ensures;
+          (λ shut. inr (shut_outside (λ (b : Bench g.row.C.Denot g.row.L.Denot). outside (g.S.Source.left c.args.streams.now.input)
+          (sink_told (g.O.Sink.written c.args.streams.now.out) (g.O.Sink.puts c.args.streams.now.out)) (g.C.Clock.readings b.clock)
+          (link_told (g.L.Link.exchanges b.link) (g.L.Link.faults b.link))) c.args.streams.now.first c.serve_door.new.first c.serve_door.result shut)) c.serve_door.ensures;
     })
 
 -- nothing else is done so
 pub returns-in-Replay : goal.returns-in-Replay
 returns-in-Replay g c = rw c.in-Replay.is (refl, refl)
+
+pub returns-in-Twin : goal.returns-in-Twin
+returns-in-Twin g c = rw c.in-Twin.is (refl, refl)
 
 pub returns-in-Generate : goal.returns-in-Generate
 returns-in-Generate g c = rw c.in-Generate.is (refl, refl)

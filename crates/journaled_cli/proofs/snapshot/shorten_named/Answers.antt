@@ -1,5 +1,5 @@
 use Rattle.std.proofs.Common.{Some, None, refl, sym}
-use Rattle.journaled_cli.proofs.SnapshotLemmas.{no_fault}
+use Rattle.journaled_cli.proofs.RunLemmas.{no_fault}
 use Rattle.journaled_cli.proofs.snapshot.shorten_named.Goals as goal
 
 -- it was replaced

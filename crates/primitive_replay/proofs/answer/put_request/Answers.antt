@@ -1,10 +1,8 @@
 use Rattle.std.proofs.Common.{[], ◌∷◌, refl, sym, subst}
 use Rattle.m2m_io.specs.Link.{Carrying}
 use Rattle.cse_machine.specs.declared.event.Outcome.{Outcome}
-use Rattle.cse_server.specs.Outside.{link_told}
-use Rattle.cse_server.specs.Replies.{GivesReply}
-use Rattle.cse_server.proofs.LinkLemmas.{carries_nothing}
-use Rattle.cse_server.proofs.RepliesLemmas.{onward_goes}
+use Rattle.desk_replies.specs.Replies.{GivesReply}
+use Rattle.desk_replies.proofs.RepliesLemmas.{onward_goes}
 use Rattle.primitive_replay.proofs.answer.put_request.Goals as goal
 
 pub returns-in-Done : goal.returns-in-Done
@@ -13,7 +11,7 @@ returns-in-Done g c = record {
   carried = [];
   step = c.step.ensures;
   gives = subst (λ (o : Outcome). GivesReply c.args.request o c.in-Done.reply []) (sym c.in-Done.is) (refl, refl);
-  link = carries_nothing (link_told (g.L.Link.exchanges c.args.link.now) (g.L.Link.faults c.args.link.now));
+  link = refl;
 }
 
 pub returns-in-Forward : goal.returns-in-Forward
@@ -25,7 +23,7 @@ returns-in-Forward g c =
       step = c.step.ensures;
       gives = subst (λ (o : Outcome). GivesReply c.args.request o c.reply_onward.result (one.carrying ∷ [])) (sym c.in-Forward.is)
           (onward_goes c.in-Forward.poa c.in-Forward.request c.reply_onward.result _ _ one);
-      link = one.link;
+      link = (_, one.link, refl);
     }
 
 pub returns-in-Starved : goal.returns-in-Starved
@@ -35,5 +33,5 @@ returns-in-Starved g c = record {
   step = c.step.ensures;
   gives = subst (λ (o : Outcome). GivesReply c.args.request o c.starved_reply.result []) (sym c.in-Starved.is)
       (c.starved_reply.ensures c.args.request refl, refl);
-  link = carries_nothing (link_told (g.L.Link.exchanges c.args.link.now) (g.L.Link.faults c.args.link.now));
+  link = refl;
 }

@@ -1,5 +1,5 @@
 use Rattle.std.proofs.Common.{Err, ap, refl}
-use Rattle.primitive_replay.proofs.TurnLemmas.{done_ends, fault_ends, line_next}
+use Rattle.primitive_replay.proofs.TurnLemmas.{done_ends, fault_ends, line_next, one_leads}
 use Rattle.primitive_replay.proofs.replaying.replay_next.Goals as goal
 
 pub returns-in-Ok-Some-clause-next : goal.returns-in-Ok-Some-clause-next
@@ -7,7 +7,7 @@ returns-in-Ok-Some-clause-next g c =
     let next = rw c.in-Ok-Some.field-0-is at c.in-Ok-Some.ensures.next in
     line_next c.args.place c.args.reading.now c.take_line.new.reading c.args.entity.now c.take_line.new.entity _ c.next_line.new.held (g.S.Source.left c.next_line.new.src)
     _ _ _ _
-    _ c.take_line.result c.in-Ok-Some.ensures.few next c.take_line.ensures.takes
+    _ c.take_line.result c.in-Ok-Some.ensures.few (one_leads c.args.place _ _ _ next) c.take_line.ensures.takes
 
 pub returns-in-Ok-None-clause-next : goal.returns-in-Ok-None-clause-next
 returns-in-Ok-None-clause-next g c =

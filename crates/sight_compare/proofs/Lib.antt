@@ -1,0 +1,2 @@
+pub mod StandInLemmas
+pub mod SeenLemmas

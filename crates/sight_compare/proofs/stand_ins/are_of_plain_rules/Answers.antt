@@ -1,0 +1,9 @@
+use Rattle.std.proofs.Common.{sym, arith}
+use Rattle.m2m_value.specs.Same.{longer_members}
+use Rattle.sight_compare.specs.StandIns.{plain_rules_members}
+use Rattle.sight_compare.proofs.stand_ins.are_of_plain_rules.Goals as goal
+
+pub returns-in_default-2 : goal.returns-in_default-2
+returns-in_default-2 c =
+    let many = c.in_default.len_at_least in
+    sym (longer_members c.args.members.now (plain_rules_members c.args.bits) (λ e. omega (arith, many, e)))

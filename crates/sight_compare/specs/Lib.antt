@@ -1,0 +1,5 @@
+pub mod Forms
+pub mod Looks
+pub mod Same
+pub mod Shown
+pub mod StandIns

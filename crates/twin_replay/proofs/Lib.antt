@@ -1,0 +1,3 @@
+pub mod TwinLemmas
+pub mod LineLemmas
+pub mod SideLemmas

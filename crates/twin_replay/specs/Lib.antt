@@ -1,0 +1,4 @@
+pub mod Forms
+pub mod Texts
+pub mod Sides
+pub mod Twins
