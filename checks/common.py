@@ -1,0 +1,139 @@
+"""What the scripts of this folder have in common: the program, ports, servers, listeners, and what is missing.
+
+It stands on Python's own library, as they do. `sys.dont_write_bytecode` before its import keeps the folder clean."""
+import http.server
+import os
+import random
+import shutil
+import socket
+import subprocess
+import sys
+import threading
+import time
+
+LOCAL = "127.0.0.1"
+TOP = os.path.dirname(os.path.dirname(os.path.realpath(__file__)))
+NAME = "checks/" + os.path.basename(sys.argv[0])
+
+ports, asking = iter(range(random.randrange(10000, 30000), 32768)), threading.Lock()
+
+
+def sources():
+    """The files of the crates that a program is made of."""
+    for folder, below, names in os.walk(f"{TOP}/crates"):
+        below[:] = [it for it in below if it not in ("out", "proofs", "must-fail")]
+        yield from (os.path.join(folder, it) for it in names if it.endswith(".rt"))
+
+
+def program():
+    """The program's file: the one that is named first, or the one that `./cse` has built."""
+    if len(sys.argv) > 1:
+        if not (os.path.isfile(sys.argv[1]) and os.access(sys.argv[1], os.X_OK)):
+            sys.exit(f"{NAME}: {sys.argv[1]} is no program; ./cse builds one, and then it is crates/cse/out/cse")
+        return os.path.abspath(sys.argv[1])
+    built = f"{TOP}/crates/cse/out/cse"
+    if not os.path.exists(built):
+        sys.exit(f"{NAME}: no program is named, and none is built: ./cse builds it, or name another one")
+    if os.path.getmtime(built) < max(map(os.path.getmtime, sources())):
+        print(f"{NAME}: a source is newer than crates/cse/out/cse, which ./cse builds anew", file=sys.stderr)
+    return built
+
+
+def has(tool, what):
+    """Whether a tool is installed. Where it isn't, it says what is skipped."""
+    if shutil.which(tool):
+        return True
+    print(f"{NAME}: {tool} is not installed, so this is skipped: {what}", flush=True)
+    return False
+
+
+def free_port():
+    """A port at which nobody listens. It lies below those that the system gives, and no look gets it twice: so nobody
+    takes it before it is used."""
+    with asking:
+        for port in ports:
+            try:
+                socket.create_server((LOCAL, port)).close()
+                return port
+            except OSError:
+                pass
+    raise SystemExit(f"{NAME}: no port is free")
+
+
+def waits_for(port, process=None, seconds=30):
+    """Waits until somebody listens at a port, unless this process ends before."""
+    last = time.monotonic() + seconds
+    while time.monotonic() < last:
+        try:
+            socket.create_connection((LOCAL, port), 1).close()
+            return
+        except OSError:
+            if process and process.poll() is not None:
+                raise SystemExit(f"{NAME}: the server ended with status {process.returncode}") from None
+            time.sleep(0.01)
+    raise SystemExit(f"{NAME}: nothing listens at {port}")
+
+
+class Server:
+    """`cse serve` with these words, at a free port or at this one."""
+
+    def __init__(self, file, *words, port=0, **how):
+        self.port = port or free_port()
+        how = {"stdout": subprocess.DEVNULL, "stderr": subprocess.DEVNULL, **how}
+        self.process = subprocess.Popen([file, "serve", f"--listen={LOCAL}:{self.port}", *words], **how)
+        waits_for(self.port, self.process)
+
+    def end(self):
+        """Ends it as an operator does, or kills it where that doesn't help."""
+        self.process.terminate()
+        try:
+            self.process.wait(30)
+        except subprocess.TimeoutExpired:
+            self.kill()
+
+    def kill(self):
+        self.process.kill()
+        self.process.wait()
+
+
+class Listener:
+    """Takes notifications at a port, and answers each so many seconds later."""
+
+    def __init__(self, port=0, delay=0):
+        listener = self
+        self.got = []
+
+        class Handler(http.server.BaseHTTPRequestHandler):
+            protocol_version = "HTTP/1.1"
+
+            def do_POST(self):
+                body = self.rfile.read(int(self.headers.get("Content-Length", 0)))
+                listener.take(self.path, body)
+                time.sleep(delay)
+                self.send_response(200)
+                self.send_header("X-M2M-RSC", "2000")
+                self.send_header("X-M2M-RI", self.headers.get("X-M2M-RI", ""))
+                self.send_header("Content-Length", "0")
+                self.end_headers()
+
+            def log_message(self, *words):
+                pass
+
+        class Threads(http.server.ThreadingHTTPServer):
+            request_queue_size = 1024
+            daemon_threads = True
+
+            def handle_error(self, request, client):
+                pass
+
+        self.server = Threads((LOCAL, port), Handler)
+        self.port = self.server.server_address[1]
+        threading.Thread(target=self.server.serve_forever, daemon=True).start()
+
+    def take(self, path, body):
+        """Keeps a body, with the moment at which it came."""
+        self.got.append((time.monotonic(), body))
+
+    def close(self):
+        self.server.shutdown()
+        self.server.server_close()
