@@ -4,10 +4,10 @@
 //! `parse` reads a text as an address: local segments, which stay where they stand in it, a foreign
 //! text, or one of another provider; `print` writes it back. `resolve` tells what local segments
 //! name: a resource, the fan-out point of a group with the place where the rest begins, or a poll
-//! point. `name_spot` and `name_segments` tell the same of an address and of the segments of a local
-//! one, where nobody counts steps. `structured` writes the names down to a resource. Each is exactly
-//! its definition, which takes the home and the plain list of resources, and speaks of parents and
-//! names alone.
+//! point. `name_spot` and `name_segments` tell the same of an address and of the segments of a
+//! local one, where nobody counts steps. `structured` writes the names down to a resource. Each is
+//! exactly its definition, which takes the home and the plain list of resources, and speaks of
+//! parents and names alone.
 //!
 //! Callers owe that `resolve` gets local segments, `print` an address that keeps its text, and
 //! `structured` a number that the tree has. `resolve` and `short_fr` take no memory.

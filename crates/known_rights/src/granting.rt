@@ -13,10 +13,10 @@ ghost use Rattle.known_rights.specs.Tables.{lent_rules, rules_by_id, NotesOrStay
 
 use crate::asker::Asker;
 use crate::known::{Known, bits_at, note_bits};
-use crate::rules::{bits_by_rules, policy_named, policy_number, rules_in};
+use crate::rules::{bits_by_rules, policy_number};
 use m2m_names::{ALL_BITS, Attr, Ty};
 use m2m_value::Val;
-use policy_eval::{granted_on, listed_in};
+use policy_eval::{granted_on, has_bits, listed_in, policy_named, rules_in};
 use tree_model::{Resource, Tree};
 
 // The bits by `pv` of a policy, as its rules are read.
@@ -133,12 +133,6 @@ fn instance_bits<T: Tree>(tree: &T, asker: &Asker, instance: &Resource, known: &
         Some(container) => container_bits(tree, asker, container, known),
         None => 0,
     }
-}
-
-fn has_bits(had: u32, wanted: u32) -> bool
-    ensures { result ≡ spec.has_bits had wanted }
-{
-    had & wanted == wanted
 }
 
 /// Whether the asker has all these bits of `acop` on the resource, which the tree has, as

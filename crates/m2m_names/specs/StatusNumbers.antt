@@ -114,7 +114,8 @@ wrong_member_row = rsc_entry 6011 400
 abbrev pub named_rows : List RscRow
 named_rows =
     accepted_row ∷ fine_row ∷ created_row ∷ deleted_row ∷ updated_row ∷ bad_request_row ∷
-    not_found_row ∷ not_allowed_row ∷ request_timeout_row ∷ no_privilege_row ∷ conflict_row ∷ bad_child_row ∷
+    not_found_row ∷ not_allowed_row ∷ request_timeout_row ∷ no_privilege_row ∷ conflict_row ∷
+    bad_child_row ∷
     internal_row ∷ not_implemented_row ∷ not_reachable_row ∷ not_subscribable_row ∷
     non_blocking_row ∷ not_acceptable_row ∷ too_many_members_row ∷ wrong_member_row ∷ []
 

@@ -19,6 +19,7 @@ use std::alloc::AllocError as OutOfMemory;
 pub fn write(value: &Val, out: &mut Vec<u8>) -> Result<(), OutOfMemory>
     ensures ok { OnOk result (out.new.items ≡ out.old.items ++ text_of value.now) }
     ensures err { OnErr result (out.new.items ≡ out.old.items) }
+    ensures sound { OnOk result (IsSound value.now) }
 
     // The text is read as the value.
     ensures reads_back { OnOk result (depth value.now ≤ reading_depth

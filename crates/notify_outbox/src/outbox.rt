@@ -1,6 +1,6 @@
 //! The outbox.
-ghost use Rattle.std.specs.Prelude.{◌≡◌, ◌+◌, ◌<◌, ◌≤◌, true, min, [], ◌∷◌, ◌++◌, length, find, IfOk, OnOk};
-ghost use Rattle.std.specs.Prelude.{OnErr, option_map};
+ghost use Rattle.std.specs.Prelude.{◌≡◌, ◌+◌, ◌<◌, ◌≤◌, true, min, [], ◌∷◌, ◌++◌, length, find};
+ghost use Rattle.std.specs.Prelude.{IfOk, OnErr, OnOk, option_map};
 ghost use Rattle.m2m_value.specs.Shapes.{largest_count};
 ghost use Rattle.std.specs.List.{AllByRecursion};
 ghost use Rattle.notify_outbox.specs.Items.{is_item, is_to_send, waits_for};
@@ -75,6 +75,7 @@ fn least_of(a: u64, b: u64) -> u64
 }
 
 // The note of an item that was taken.
+#[inline(always)]
 fn note_of(item: Option<Item>) -> Option<Note>
     ensures { result ≡ option_map (λ (i : Item). i.note) item }
 {
@@ -148,7 +149,9 @@ impl Outbox {
         }
     }
 
-    // Appends it under a number that no item had before.
+    // Appends it under a number that no item had before. A note is large: it isn't moved to a call of
+    // its own.
+    #[inline(always)]
     fn append_next(&mut self, note: Note, since: u64)
         requires room { 0 < self.old.room }
         requires order { AllByRecursion (λ (i : Item). i.since ≤ since) self.old.items }
@@ -172,6 +175,7 @@ impl Outbox {
     }
 
     // Appends it under the last number, which was given already.
+    #[cold]
     fn append_late(&mut self, note: Note, since: u64)
         requires room { 0 < self.old.room }
         requires order { AllByRecursion (λ (i : Item). i.since ≤ since) self.old.items }
@@ -238,6 +242,7 @@ impl Outbox {
     }
 
     // The same for no polling channel of the tree.
+    #[inline(always)]
     fn take_item_to_send<T: Tree>(&mut self, tree: &T) -> Option<Item>
         ensures item { result ≡ find (is_to_send (T.nodes tree.now)) self.old.items }
         ensures rest { self.new ≡ taken (is_to_send (T.nodes tree.now)) self.old }

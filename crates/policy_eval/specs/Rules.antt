@@ -11,6 +11,7 @@ use Rattle.m2m_names.specs.declared.types.Ty.TheVariants.{PollingChannel}
 use Rattle.m2m_names.specs.declared.types.Ty.{Ty}
 use Rattle.m2m_names.specs.Ids.{id_parts}
 use Rattle.m2m_names.specs.Members.{acr_name, acor_name, acop_name}
+use Rattle.m2m_names.specs.Name.{is_one_of}
 use Rattle.m2m_names.specs.Operations.{all_bits}
 use Rattle.m2m_value.specs.Data.{Data, number, text, list, object, elements_of, pairs_of}
 use Rattle.m2m_value.specs.View.{as_list, as_number, as_object, as_text, member_of}
@@ -64,6 +65,17 @@ listed_in d = unwrap_or (option_and_then as_list d) []
 -- the texts among values
 abbrev pub texts_of : List Data → List (List ℕ)
 texts_of ds = filter_map as_text ds
+
+-- those of some texts that didn't stand before, each where it stands first
+abbrev pub new_after : List (List ℕ) → List (List ℕ) → List (List ℕ)
+new_after seen [] = []
+new_after seen (one ∷ others) =
+    if is_one_of seen one then new_after seen others
+    else one ∷ new_after (seen ++ one ∷ []) others
+
+-- the texts without repeats
+abbrev pub each_once : List (List ℕ) → List (List ℕ)
+each_once texts = new_after [] texts
 
 -- a rule as it is written: its `acor` and its `acop` (TS-0004, 7.4.2)
 abbrev pub stated_rule : Data → Rule

@@ -7,7 +7,8 @@
 //! `fan_grants` of `specs/Rights`), takes no memory, and looks up the resource, the one that stands
 //! for it where it is a content instance or a polling channel, and each policy that is named.
 //! Callers owe that the tree has the resource, and that the originator is one. Full forms are
-//! compared without being built.
+//! compared without being built. `bits` and `fan_bits` give all bits of `acop` that are granted so,
+//! and `with_rules` those that rules give; their callers owe nothing.
 //!
 //! That a policy's resource id names that policy is a law on a function without a body. The laws on
 //! what an originator sees, and on removals, stand in policy_laws.
@@ -25,5 +26,8 @@ mod policies;
 mod rights;
 
 pub use laws::a_policy_is_named_by_its_id;
-pub use policies::{listed_in, policy_at};
-pub use rights::{fan_granted, granted, granted_on, may_relink};
+pub use originators::is_same;
+pub use policies::{bits_of, entries_of, listed_in, policy_at, policy_named, rules_in};
+pub use rights::{
+    bits, fan_bits, fan_granted, granted, granted_on, has_bits, may_relink, with_rules,
+};

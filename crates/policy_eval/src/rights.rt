@@ -40,7 +40,7 @@ fn with_rule(home: &Home, originator: &[u8], bits: u32, rule: &Val) -> u32
 
 /// The bits, and those that rules give the originator besides. Who has all bits gets no more.
 #[tactic(auto, using(crate::proofs::BitLemmas::all_had))]
-fn with_rules(home: &Home, originator: &[u8], bits: u32, rules: &[Val]) -> u32
+pub fn with_rules(home: &Home, originator: &[u8], bits: u32, rules: &[Val]) -> u32
     ensures { result
         ≡ spec.with_rules home.now originator.now bits (map spec_rules.stated_rule rules.now) }
 {
@@ -110,8 +110,8 @@ fn of_channel(home: &Home, originator: &[u8], parent: &Resource) -> u32
     }
 }
 
-/// By the rules of the resource.
-fn bits<T: Tree>(tree: &T, home: &Home, originator: &[u8], resource: &Resource) -> u32
+/// The bits of `acop` that the originator has on the resource, by its rules.
+pub fn bits<T: Tree>(tree: &T, home: &Home, originator: &[u8], resource: &Resource) -> u32
     ensures { result
         ≡ spec.bits_by home.now originator.now
         (spec_rules.rules_of (T.nodes tree.now) resource.now) }
@@ -139,8 +139,8 @@ fn bits<T: Tree>(tree: &T, home: &Home, originator: &[u8], resource: &Resource) 
     linked(tree, home, originator, Attr::Pv, resource)
 }
 
-/// By the rules of a fan-out to the group.
-fn fan_bits<T: Tree>(tree: &T, home: &Home, originator: &[u8], group: &Resource) -> u32
+/// The bits of `acop` that the originator has for a fan-out to the group, by its rules.
+pub fn fan_bits<T: Tree>(tree: &T, home: &Home, originator: &[u8], group: &Resource) -> u32
     ensures { result
         ≡ spec.bits_by home.now originator.now (spec_rules.fan_rules (T.nodes tree.now) group.now) }
 {
@@ -152,7 +152,8 @@ fn fan_bits<T: Tree>(tree: &T, home: &Home, originator: &[u8], group: &Resource)
     }
 }
 
-fn has_bits(had: u32, wanted: u32) -> bool
+/// Whether all the wanted bits of `acop` are among those that are had.
+pub fn has_bits(had: u32, wanted: u32) -> bool
     ensures { result ≡ spec.has_bits had wanted }
 {
     had & wanted == wanted

@@ -120,8 +120,8 @@ impl Home {
     ghost use Rattle.resource_model.specs.Home.{first_bad, default_home};
 
     /// A home of these parts. The service provider, the CSE-ID, here without its slash, and the
-    /// name of the CSEBase are free names, the last of them in the form of no id; the CSE type is 1,
-    /// 2 or 3; the administrator is an originator.
+    /// name of the CSEBase are free names, the last of them in the form of no id; the CSE type is
+    /// 1, 2 or 3; the administrator is an originator.
     pub fn new(
         alloc: Global,
         sp: &[u8],

@@ -1,13 +1,14 @@
 -- What is noted of the resources of whose children's deletions somebody is told.
 use Rattle.std.specs.Prelude.{nat_eq}
-use Rattle.std.proofs.Common.{◌≡◌, ℕ, List, [], Bool, false, cond, Some, None, inl, inr, refl, sym, ap, ◌∙◌}
-use Rattle.std.proofs.lemmas.Bool.{cases_Bool, eqb-true}
+use Rattle.std.proofs.Common.{◌≡◌, ℕ, List, [], ◌∷◌, Bool, true, false, not, ◌&&◌, ◌||◌, cond, Option, Some, None, IfSome, filter, inl, inr, refl, sym, ap, ◌∙◌}
+use Rattle.std.proofs.lemmas.Bool.{cases_Bool, eqb-true, false≢true}
 use Rattle.std.proofs.lemmas.Option.{same_Some}
 use Rattle.std.specs.List.{list_any}
+use Rattle.std.specs.Option.{option_map_or}
 use Rattle.std.specs.Ordering.{is_eq, nat_cmp}
 use Rattle.resource_model.specs.Resource.{ResourceData}
-use Rattle.subscription_match.specs.Matching.{does_hear, noted_at, is_heard, AreHeard}
-use Rattle.subscription_match.specs.Watching.{subs_under}
+use Rattle.tree_model.specs.Changes.{ChangeData, created, updated, deleted}
+use Rattle.subscription_match.specs.Matching.{AreHeard, above_of, does_hear, does_hear_under, heard_above, is_deaf, is_heard, is_heard_above, is_sub_of, is_sub_of_either, noted_at}
 use Rattle.subscription_match.proofs.SpendingLemmas.{same_number}
 
 -- nothing yet
@@ -16,17 +17,64 @@ none_noted going nodes rows is = record {
   says = λ n b found. let none : None ≡ Some b = sym (ap (λ (rs : List (ℕ × Bool)). noted_at rs n) is) ∙ found in cc;
 }
 
--- where no subscription stands under a resource, none hears
-pub none_hear : (going : List ℕ) (nodes : List ResourceData) (parent : ℕ) (subs : List ResourceData) → subs ≡ subs_under (Some parent) nodes → subs ≡ [] → false ≡ is_heard going nodes parent
-none_hear going nodes parent subs all none = sym (ap (λ (rs : List ResourceData). list_any (does_hear going) rs) (sym all ∙ none))
+-- where it is noted that none hears, none does
+pub deaf_so : (going : List ℕ) (nodes : List ResourceData) (rows : List (ℕ × Bool)) (n : ℕ) → AreHeard going nodes rows → is_deaf rows n ≡ true → is_heard going nodes n ≡ false
+deaf_so going nodes rows n so deaf = by (noted_at rows n) refl deaf
+  where
+    by : (o : Option Bool) → noted_at rows n ≡ o → option_map_or not o false ≡ true → is_heard going nodes n ≡ false
+    by None found is = absurd (false≢true is)
+    by (Some true) found is = absurd (false≢true is)
+    by (Some false) found is = sym (so.says n false found)
 
--- one of all that stand there does, or none
-pub some_hear : (going : List ℕ) (nodes : List ResourceData) (parent : ℕ) (subs : List ResourceData) (found : Bool) → found ≡ list_any (does_hear going) subs → subs ≡ subs_under (Some parent) nodes → found ≡ is_heard going nodes parent
-some_hear going nodes parent subs found is all = is ∙ ap (λ (rs : List ResourceData). list_any (does_hear going) rs) all
+-- what was found of those that were gone over is so of the resource that loses a child
+pub found_so : (going : List ℕ) (nodes : List ResourceData) (rows : List (ℕ × Bool)) (change : ChangeData) (above : Option ℕ) (found : Option Bool) → AreHeard going nodes rows → above ≡ heard_above rows change → IfSome found (λ b. b ≡ is_heard_above going nodes above) → IfSome found (λ b. b ≡ is_heard_above going nodes (above_of change))
+found_so going nodes rows change above None so is says = tt
+found_so going nodes rows change above (Some b) so is says = says ∙ ap (is_heard_above going nodes) is ∙ same change
+  where
+    none_under : (rs : List ResourceData) → list_any (does_hear going) (filter (is_sub_of None) rs) ≡ false
+    none_under [] = refl
+    none_under (r ∷ rs) = none_under rs
 
--- what is noted is so
-pub noted_is : (going : List ℕ) (nodes : List ResourceData) (rows : List (ℕ × Bool)) (n : ℕ) (b : Bool) → AreHeard going nodes rows → Some b ≡ noted_at rows n → b ≡ is_heard going nodes n
-noted_is going nodes rows n b so found = so.says n b (sym found)
+    same : (c : ChangeData) → is_heard_above going nodes (heard_above rows c) ≡ is_heard_above going nodes (above_of c)
+    same (created r) = refl
+    same (updated r s named) = refl
+    same (deleted r) = elim (cases_Bool (is_deaf rows r.parent)) [
+      | inl t ↦ rw t (none_under nodes ∙ sym (deaf_so going nodes rows r.parent so t))
+      | inr f ↦ rw f refl
+    ]
+
+-- of those under one of two resources, those under the second are all that may hear under it
+among : (p q : ResourceData → Bool) (r : ResourceData) (either those : List ResourceData) (own above : Bool) → p r ≡ (above && q r) → list_any p either ≡ list_any q those → list_any p (cond (own || above) (r ∷ either) either) ≡ list_any q (cond above (r ∷ those) those)
+among p q r either those true true is rest = ap (λ b. b || list_any p either) is ∙ ap (λ b. q r || b) rest
+among p q r either those false true is rest = ap (λ b. b || list_any p either) is ∙ ap (λ b. q r || b) rest
+among p q r either those true false is rest = ap (λ b. b || list_any p either) is ∙ rest
+among p q r either those false false is rest = rest
+
+pub heard_among : (going : List ℕ) (own above : Option ℕ) (nodes : List ResourceData) → list_any (does_hear_under going above) (filter (is_sub_of_either own above) nodes) ≡ is_heard_above going nodes above
+heard_among going own above [] = refl
+heard_among going own above (r ∷ nodes) =
+    among (does_hear_under going above) (does_hear going) r (filter (is_sub_of_either own above) nodes) (filter (is_sub_of above) nodes)
+    (is_sub_of own r) (is_sub_of above r) refl (heard_among going own above nodes)
+
+-- one of those that were taken hears where one did so far or the next does
+pub hears_on : (so_far next left all : Bool) → (so_far || (next || left)) ≡ all → ((so_far || next) || left) ≡ all
+hears_on true next left all is = is
+hears_on false next left all is = is
+
+-- where none is left, one of those that were taken hears where one under the second of two resources does
+pub heard_of_all : (going : List ℕ) (own above : Option ℕ) (nodes left : List ResourceData) (hears : Bool) → left ≡ [] → (hears || list_any (does_hear_under going above) left) ≡ list_any (does_hear_under going above) (filter (is_sub_of_either own above) nodes) → hears ≡ is_heard_above going nodes above
+heard_of_all going own above nodes left hears none is =
+    sym (or_false hears) ∙ ap (λ (rs : List ResourceData). hears || list_any (does_hear_under going above) rs) (sym none)
+    ∙ is ∙ heard_among going own above nodes
+  where
+    or_false : (b : Bool) → (b || false) ≡ b
+    or_false true = refl
+    or_false false = refl
+
+-- what was found of those that were taken is so
+pub found_same : (found : Option Bool) (hears is : Bool) → IfSome found (λ b. b ≡ hears) → hears ≡ is → IfSome found (λ b. b ≡ is)
+found_same None hears is says same = tt
+found_same (Some b) hears is says same = says ∙ same
 
 -- one more
 pub one_noted : (going : List ℕ) (nodes : List ResourceData) (old new : List (ℕ × Bool)) (parent : ℕ) (is : Bool) → AreHeard going nodes old → is ≡ is_heard going nodes parent → ((q : ℕ) → noted_at new q ≡ cond (is_eq (nat_cmp parent q)) (Some is) (noted_at old q)) → AreHeard going nodes new
@@ -42,6 +90,3 @@ one_noted going nodes old new parent is so now updates = record { says = by }
           let before : noted_at new n ≡ noted_at old n = updates n ∙ rw (same_number parent n ∙ f) refl in
           so.says n b (sym before ∙ found)
     ]
-
--- who hears, with what is noted of it
-pub ruleset heard_of = (one_noted, none_hear, some_hear)

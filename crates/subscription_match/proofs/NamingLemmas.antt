@@ -1,5 +1,5 @@
 -- Resource ids are UTF-8.
-use Rattle.std.proofs.Common.{◌≡◌, ◌++◌, ◌<◌, ◌^◌, true, IsUtf8, refl}
+use Rattle.std.proofs.Common.{◌≡◌, ◌<◌, ◌^◌, true, IsUtf8, refl}
 use Rattle.std.specs.Char.{is_ascii_graphic}
 use Rattle.std.specs.Fmt.{decimal}
 use Rattle.std.specs.List.{list_all}

@@ -4,7 +4,6 @@ use Rattle.std.proofs.Common.{◌≡◌, ℕ, zero, suc, ◌+◌, ◌<◌, ◌==
 use Rattle.std.proofs.lemmas.Bool.{cases_Bool, and_parts, eqb-true, ltb-true, le-ltb, both_ways}
 use Rattle.std.proofs.lemmas.List.Elements.{filter_map-append}
 use Rattle.std.specs.List.{filter_map, list_any, AllByRecursion}
-use Rattle.std.specs.Option.{option_to_list}
 use Rattle.m2m_names.specs.declared.types.Ty.TheVariants.{Subscription}
 use Rattle.resource_model.specs.Resource.{ResourceData, is_ty}
 use Rattle.tree_model.specs.Tree.{is_kin, is_tree}
@@ -12,8 +11,9 @@ use Rattle.tree_model.proofs.OrderLemmas.{are_above, ascend, tree_ascends, above
 use Rattle.tree_model.proofs.StepLemmas.{dropped_none, dropped_some}
 use Rattle.tree_model.specs.Changes.{ChangeData, created, updated, deleted}
 use Rattle.resource_model.specs.Home.{HomeData}
-use Rattle.subscription_match.specs.Matching.{above_of, does_hear, event_for, heard_above, is_heard, is_sub_of, is_sub_of_either, own_of}
+use Rattle.subscription_match.specs.Matching.{AreHeard, above_of, does_hear, event_for, heard_above, is_deaf, is_sub_of, is_sub_of_either, own_of}
 use Rattle.subscription_match.specs.Notices.{told, told_as, told_to_all}
+use Rattle.subscription_match.proofs.HeardLemmas.{deaf_so}
 use Rattle.subscription_match.specs.Watching.{by_number, comes_next, subs_under, unless_same}
 
 -- ---- which of two lists goes on
@@ -252,21 +252,21 @@ module _ (home : HomeData) (nodes : List ResourceData) (going : List ℕ) (gone 
           let own : is_sub_of (Some gone.number) s ≡ false = (neither (is_sub_of (Some gone.number) s) (is_sub_of None s) elsewhere).0 in
           ap (option_map (told_as home nodes (deleted gone) s)) (apart_from s own f)
 
--- those under the changed resource, and those under its parent where one of them may be told so, are
--- told all that is told of a change
-pub told_heard : (home : HomeData) (nodes rs : List ResourceData) (going : List ℕ) (change : ChangeData) → rs ≡ filter (is_sub_of_either (own_of change) (heard_above going nodes change)) nodes → filter_map (told home nodes going change) rs ≡ told_to_all home nodes going change
-told_heard home nodes rs going (created new) is = told_there home nodes rs going (created new) is
-told_heard home nodes rs going (updated before after named) is = told_there home nodes rs going (updated before after named) is
-told_heard home nodes rs going (deleted gone) is = elim (cases_Bool (is_heard going nodes gone.parent)) [
-  | inl t ↦ told_there home nodes rs going (deleted gone) (is ∙ ap (λ (o : Option ℕ). filter (is_sub_of_either (Some gone.number) o) nodes) (heard_so t))
-  | inr f ↦
-      let alone : rs ≡ filter (is_sub_of_either (Some gone.number) None) nodes = is ∙ ap (λ (o : Option ℕ). filter (is_sub_of_either (Some gone.number) o) nodes) (unheard_so f) in
+-- those under the changed resource, and those under its parent where it isn't noted that none of them
+-- is told, are told all that is told of a change
+pub told_heard : (home : HomeData) (nodes rs : List ResourceData) (going : List ℕ) (rows : List (ℕ × Bool)) (change : ChangeData) → AreHeard going nodes rows → rs ≡ filter (is_sub_of_either (own_of change) (heard_above rows change)) nodes → filter_map (told home nodes going change) rs ≡ told_to_all home nodes going change
+told_heard home nodes rs going rows (created new) so is = told_there home nodes rs going (created new) is
+told_heard home nodes rs going rows (updated before after named) so is = told_there home nodes rs going (updated before after named) is
+told_heard home nodes rs going rows (deleted gone) so is = elim (cases_Bool (is_deaf rows gone.parent)) [
+  | inl t ↦
+      let alone : rs ≡ filter (is_sub_of_either (Some gone.number) None) nodes = is ∙ ap (λ (o : Option ℕ). filter (is_sub_of_either (Some gone.number) o) nodes) (deaf t) in
       ap (filter_map (told home nodes going (deleted gone))) alone
-      ∙ narrowed_each (told home nodes going (deleted gone)) (is_sub_of_either (Some gone.number) None) nodes (unheard_each home nodes going gone nodes f)
+      ∙ narrowed_each (told home nodes going (deleted gone)) (is_sub_of_either (Some gone.number) None) nodes (unheard_each home nodes going gone nodes (deaf_so going nodes rows gone.parent so t))
+  | inr f ↦ told_there home nodes rs going (deleted gone) (is ∙ ap (λ (o : Option ℕ). filter (is_sub_of_either (Some gone.number) o) nodes) (sought f))
 ]
   where
-    heard_so : is_heard going nodes gone.parent ≡ true → heard_above going nodes (deleted gone) ≡ Some gone.parent
-    heard_so t = rw t refl
+    deaf : is_deaf rows gone.parent ≡ true → heard_above rows (deleted gone) ≡ None
+    deaf t = rw t refl
 
-    unheard_so : is_heard going nodes gone.parent ≡ false → heard_above going nodes (deleted gone) ≡ None
-    unheard_so f = rw f refl
+    sought : is_deaf rows gone.parent ≡ false → heard_above rows (deleted gone) ≡ Some gone.parent
+    sought f = rw f refl

@@ -1,5 +1,5 @@
 -- Which subscriptions are told of which changes (TS-0001, 9.6.8 and 10.2.10).
-use Rattle.std.specs.Prelude.{◌≡◌, ℕ, ◌+◌, ◌*◌, nat_eq, Bool, true, false, not, ◌&&◌, ◌||◌, List}
+use Rattle.std.specs.Prelude.{◌≡◌, ℕ, ◌+◌, nat_eq, Bool, true, false, not, ◌&&◌, ◌||◌, List}
 use Rattle.std.specs.Prelude.{[], ◌∷◌, filter, length, codes}
 use Rattle.std.specs.Prelude.{if◌then◌else◌, Option, Some, None, is_some, option_and_then}
 use Rattle.std.specs.List.{list_any}
@@ -116,11 +116,13 @@ does_hear going sub = not (is_numbered_in going sub) && looks_for DeleteOfChild 
 abbrev pub is_heard : List ℕ → List ResourceData → ℕ → Bool
 is_heard going nodes parent = list_any (does_hear going) (filter (is_sub_of (Some parent)) nodes)
 
--- the resource that gets or loses a child by the change, where one under it may be told so
-abbrev pub heard_above : List ℕ → List ResourceData → ChangeData → Option ℕ
-heard_above going nodes (created r) = Some r.parent
-heard_above going nodes (updated r s named) = None
-heard_above going nodes (deleted r) = if is_heard going nodes r.parent then Some r.parent else None
+-- one under the resource of this number, where one is given, does
+abbrev pub is_heard_above : List ℕ → List ResourceData → Option ℕ → Bool
+is_heard_above going nodes parent = list_any (does_hear going) (filter (is_sub_of parent) nodes)
+
+-- the subscription stands there, and does
+abbrev pub does_hear_under : List ℕ → Option ℕ → ResourceData → Bool
+does_hear_under going parent sub = is_sub_of parent sub && does_hear going sub
 
 -- what is noted at the number of a resource
 abbrev pub noted_at : List (ℕ × Bool) → ℕ → Option Bool
@@ -131,15 +133,26 @@ pub record AreHeard (going : List ℕ) (nodes : List ResourceData)
     (rows : List (ℕ × Bool)) : Type 0 where
   pub says : (n : ℕ) (b : Bool) → noted_at rows n ≡ Some b → b ≡ is_heard going nodes n
 
+-- it is noted that none under the resource of this number does
+abbrev pub is_deaf : List (ℕ × Bool) → ℕ → Bool
+is_deaf rows n = option_map_or not (noted_at rows n) false
+
+-- the resource that gets or loses a child by the change, unless it is noted that nobody under it is
+-- told so
+abbrev pub heard_above : List (ℕ × Bool) → ChangeData → Option ℕ
+heard_above rows (created r) = Some r.parent
+heard_above rows (updated r s named) = None
+heard_above rows (deleted r) = if is_deaf rows r.parent then None else Some r.parent
+
 -- the subscriptions that are told of a change, in order of creation
 abbrev pub matching : List ResourceData → List ℕ → ChangeData → List ResourceData
 matching nodes going change = filter (λ sub. is_some (event_for going change sub)) nodes
 
 -- ---- how many steps it takes
 
--- at most two steps for each subscription under the changed resource or its parent, and three more
+-- at most a step for each subscription under the changed resource or its parent, and two more
 abbrev pub steps_of : List ResourceData → ChangeData → ℕ
-steps_of nodes change = 2 * length (watching nodes change) + 3
+steps_of nodes change = length (watching nodes change) + 2
 
 -- the same for each change of an operation
 abbrev pub steps_of_all : List ResourceData → List ChangeData → ℕ

@@ -1,22 +1,23 @@
 //! What is told of changes.
-ghost use Rattle.std.specs.Prelude.{◌≡◌, ◌++◌, ◌+◌, ◌<◌, ◌≤◌, filter, length, IfOk, OnOk};
-ghost use Rattle.std.specs.List.{filter_map, list_any};
+ghost use Rattle.std.specs.Prelude.{◌≡◌, ℕ, ◌++◌, ◌+◌, ◌<◌, ◌≤◌, List, filter, length, IfOk};
+ghost use Rattle.std.specs.Prelude.{IfSome, OnOk};
+ghost use Rattle.std.specs.List.{filter_map};
+ghost use Rattle.resource_model.specs.Resource.{ResourceData};
 ghost use Rattle.subscription_match.specs.Matching as matching;
 ghost use Rattle.subscription_match.specs.Matching.{is_sub_of_either, steps_of_all, watching};
 ghost use Rattle.subscription_match.specs.Notices as spec;
-ghost use Rattle.subscription_match.specs.Watching.{subs_under};
 ghost use Rattle.tree_model.specs.Changes.{change_of};
 ghost use Rattle.tree_model.specs.Tree.{DoAscend};
 
-use crate::criteria::{does_hear, event_for};
+use crate::criteria::{does_hear, event_for, is_sub_of};
 use crate::drafts::Draft;
 use crate::telling::{notice_of, told_as};
-use crate::watching::{Under, over_watching};
+use crate::watching::over_watching;
 use std::alloc::{AllocError as OutOfMemory, Global};
 use std::collections::BTreeMap;
 use std::marker::Brand;
 use std::sync::ledger::{Blank, Ledger};
-use tree_model::{Change, Changes, Home, Steps, Tree};
+use tree_model::{Change, Changes, Home, Resource, Steps, Tree};
 
 // The resource that was there before the change and is itself changed.
 fn own_of(change: Change<'_>) -> Option<u64>
@@ -29,101 +30,74 @@ fn own_of(change: Change<'_>) -> Option<u64>
     }
 }
 
-// The resource that gets or loses a child by a change.
-fn above_of(change: Change<'_>) -> Option<u64>
-    ensures { result ≡ matching.above_of (change_of change.entry) }
+// Whether it is noted that no subscription under the resource of this number is told of the
+// deletion of a child.
+fn is_deaf(heard: &BTreeMap<u64, bool>, parent: u64) -> bool
+    ensures { result ≡ matching.is_deaf heard.now.entries parent }
+{
+    match heard.get(&parent) {
+        Some(hears) => !*hears,
+        None => false,
+    }
+}
+
+// The resource that gets or loses a child, unless it is noted that nobody under it is told so. So a
+// removal of a subtree goes once over subscriptions that aren't told, and not once for each child.
+fn heard_above(heard: &BTreeMap<u64, bool>, change: Change<'_>) -> Option<u64>
+    ensures { result ≡ matching.heard_above heard.now.entries (change_of change.entry) }
 {
     match change {
         Change::Created(new) => Some(new.parent()),
         Change::Updated { .. } => None,
-        Change::Deleted(gone) => Some(gone.parent()),
-    }
-}
-
-// Whether one of those that are left is told of the deletion of a child.
-fn is_any_told<T: Tree, L: Ledger>(
-    going: &[u64],
-    subs: &mut Under<'_, T>,
-    steps: &mut Steps<L>,
-) -> bool
-    requires { DoAscend going.now }
-    ensures value { result ≡ list_any (matching.does_hear going.now) subs.old }
-    ensures counted { steps.old ≤ steps.new }
-    ensures cost { steps.new ≤ steps.old + length subs.old }
-{
-    'subs: while let Some(sub) = subs.take(steps) {
-        if does_hear(going, sub) {
-            return true;
-        }
-    }
-    false
-}
-
-// Whether a subscription under the resource of this number is told of the deletion of a child: that
-// is found once for each resource and then noted. Where none stands under it, nothing is noted.
-#[tactic(auto, using(crate::proofs::HeardLemmas::heard_of))]
-fn is_heard<T: Tree, L: Ledger>(
-    tree: &T,
-    going: &[u64],
-    heard: &mut BTreeMap<u64, bool>,
-    parent: u64,
-    steps: &mut Steps<L>,
-) -> Result<bool, OutOfMemory>
-    requires order { DoAscend going.now }
-    requires heard { matching.AreHeard going.now (T.nodes tree.now) heard.old.entries }
-    ensures value { IfOk result (λ b. b ≡ matching.is_heard going.now (T.nodes tree.now) parent) }
-    ensures heard { OnOk result
-        (matching.AreHeard going.now (T.nodes tree.now) heard.new.entries) }
-    ensures counted { steps.old ≤ steps.new }
-    ensures cost { steps.new
-        ≤ steps.old + length (subs_under (Some parent) (T.nodes tree.now)) + 1 }
-{
-    if let Some(known) = heard.get(&parent) {
-        return Ok(*known);
-    }
-    let mut subs = Under::of(tree, Some(parent), steps);
-    if subs.is_empty() {
-        return Ok(false);
-    }
-    let found = is_any_told(going, &mut subs, steps);
-    heard.insert(parent, found)?;
-    Ok(found)
-}
-
-// The resource that gets or loses a child, where a subscription under it may be told so. A removal
-// of a subtree looks so at the subscriptions of each resource once, and not once for each child.
-fn heard_above<T: Tree, L: Ledger>(
-    tree: &T,
-    going: &[u64],
-    heard: &mut BTreeMap<u64, bool>,
-    change: Change<'_>,
-    steps: &mut Steps<L>,
-) -> Result<Option<u64>, OutOfMemory>
-    requires order { DoAscend going.now }
-    requires heard { matching.AreHeard going.now (T.nodes tree.now) heard.old.entries }
-    ensures value { IfOk result (λ o. o
-        ≡ matching.heard_above going.now (T.nodes tree.now) (change_of change.entry)) }
-    ensures heard { OnOk result
-        (matching.AreHeard going.now (T.nodes tree.now) heard.new.entries) }
-    ensures counted { steps.old ≤ steps.new }
-    ensures cost { steps.new ≤ steps.old + length (subs_under
-        (matching.above_of (change_of change.entry)) (T.nodes tree.now)) + 1 }
-{
-    match change {
-        Change::Created(new) => Ok(Some(new.parent())),
-        Change::Updated { .. } => Ok(None),
         Change::Deleted(gone) => {
-            if is_heard(tree, going, heard, gone.parent(), steps)? {
-                Ok(Some(gone.parent()))
+            if is_deaf(heard, gone.parent()) {
+                None
             } else {
-                Ok(None)
+                Some(gone.parent())
             }
         }
     }
 }
 
+// Notes of the resource that loses a child whether a subscription under it is told so, where that
+// was found.
+#[tactic(auto, using(crate::proofs::HeardLemmas::one_noted))]
+fn note_heard(
+    heard: &mut BTreeMap<u64, bool>,
+    change: Change<'_>,
+    found: Option<bool>,
+) -> Result<(), OutOfMemory>
+    ensures { (going : List ℕ) (nodes : List ResourceData)
+        → matching.AreHeard going nodes heard.old.entries
+        → IfSome found (λ b. b
+        ≡ matching.is_heard_above going nodes (matching.above_of (change_of change.entry)))
+        → OnOk result (matching.AreHeard going nodes heard.new.entries) }
+{
+    if let (Change::Deleted(gone), Some(hears)) = (change, found) {
+        heard.insert(gone.parent(), hears)?;
+    }
+    Ok(())
+}
+
+// Whether it is a subscription under the resource of this number, where one is given, that is told
+// of the deletion of a child.
+fn does_hear_under(going: &[u64], parent: Option<u64>, sub: &Resource) -> bool
+    requires { DoAscend going.now }
+    ensures { result ≡ matching.does_hear_under going.now parent sub.now }
+{
+    is_sub_of(sub, parent) && does_hear(going, sub)
+}
+
+// What was found, where something was sought.
+fn found_of(is_sought: bool, found: bool) -> Option<bool>
+    ensures { IfSome result (λ b. b ≡ found) }
+{
+    if is_sought { Some(found) } else { None }
+}
+
 // What is told to those of the subscriptions under the changed resource, and under another one
-// where it is given, that match the change.
+// where it is given, that match the change; and, where some stand under that other one, whether one
+// of these is told of the deletion of a child.
 fn add_told<T: Tree, L: Ledger>(
     alloc: Global,
     tree: &T,
@@ -133,23 +107,28 @@ fn add_told<T: Tree, L: Ledger>(
     above: Option<u64>,
     drafts: &mut Vec<Draft>,
     steps: &mut Steps<L>,
-) -> Result<(), OutOfMemory>
+) -> Result<Option<bool>, OutOfMemory>
     requires { DoAscend going.now }
     ensures told { OnOk result (drafts.new.items ≡ drafts.old.items
         ++ filter_map (spec.told home.now (T.nodes tree.now) going.now (change_of change.entry))
         (filter (is_sub_of_either (matching.own_of (change_of change.entry)) above)
         (T.nodes tree.now))) }
+    ensures found { IfOk result (λ found. IfSome found
+        (λ b. b ≡ matching.is_heard_above going.now (T.nodes tree.now) above)) }
     ensures counted { steps.old ≤ steps.new }
     ensures cost { steps.new ≤ steps.old + length (filter (is_sub_of_either
         (matching.own_of (change_of change.entry)) above) (T.nodes tree.now)) + 2 }
 {
     let mut subs = over_watching(tree, own_of(change), above, steps);
+    let is_sought = subs.has_above();
+    let mut hears = false;
     'subs: while let Some(sub) = subs.take(steps) {
+        hears = hears || does_hear_under(going, above, sub);
         if let Some(kind) = event_for(going, change, sub) {
             drafts.push(told_as(alloc, tree, home, change, sub, kind)?)?;
         }
     }
-    Ok(())
+    Ok(found_of(is_sought, hears))
 }
 
 fn add_notices(
@@ -169,6 +148,8 @@ fn add_notices(
     Ok(())
 }
 
+// What is told of a change, where it is noted of some resources whether anybody under them is told
+// of the deletion of a child.
 fn add_notes<T: Tree, L: Ledger>(
     alloc: Global,
     tree: &T,
@@ -189,8 +170,9 @@ fn add_notes<T: Tree, L: Ledger>(
     ensures cost { steps.new ≤ steps.old
         + matching.steps_of (T.nodes tree.now) (change_of change.entry) }
 {
-    let above = heard_above(tree, going, heard, change, steps)?;
-    add_told(alloc, tree, home, going, change, above, drafts, steps)?;
+    let above = heard_above(heard, change);
+    let found = add_told(alloc, tree, home, going, change, above, drafts, steps)?;
+    note_heard(heard, change, found)?;
     add_notices(alloc, home, change, drafts)
 }
 
@@ -198,6 +180,7 @@ fn add_notes<T: Tree, L: Ledger>(
 /// then the notice of the deletion of a subscription. The tree is the one before the change, and
 /// `going` are the numbers, which ascend, of what the same removal takes. It takes at most a step
 /// for each subscription under the changed resource or its parent, and two more.
+#[tactic(auto, using(crate::proofs::HeardLemmas::none_noted))]
 pub fn notes<T: Tree, L: Ledger>(
     alloc: Global,
     tree: &T,
@@ -213,17 +196,24 @@ pub fn notes<T: Tree, L: Ledger>(
     ensures cost { steps.new
         ≤ steps.old + length (watching (T.nodes tree.now) (change_of change.entry)) + 2 }
 {
+    let mut heard = BTreeMap::new(alloc);
     let mut drafts = Vec::new(alloc);
-    let above = above_of(change);
-    add_told(alloc, tree, home, going, change, above, &mut drafts, steps)?;
-    add_notices(alloc, home, change, &mut drafts)?;
+    add_notes(
+        alloc,
+        tree,
+        home,
+        going,
+        change,
+        &mut heard,
+        &mut drafts,
+        steps,
+    )?;
     Ok(drafts)
 }
 
 /// What is told of an operation's changes, in their order. The tree is the one before the
 /// operation, and `going` are the numbers, which ascend, of what it removes. For each change it
-/// takes at most two steps for each subscription under the changed resource or its parent, and
-/// three more.
+/// takes no more steps than `notes` does.
 #[tactic(auto, using(crate::proofs::HeardLemmas::none_noted))]
 pub fn counted_notes<T: Tree, L: Ledger>(
     alloc: Global,

@@ -12,7 +12,7 @@ use tree_model::{Resource, Steps, Tree, subscription_at};
 
 /// The subscriptions under a resource, where one is given, seen as the list of those that are left.
 #[derive(Drop)]
-pub(crate) struct Under<'a, T: Tree> {
+struct Under<'a, T: Tree> {
     tree: &'a T,
     parent: Option<u64>,
     // The first of those that are left, and its place.
@@ -41,11 +41,7 @@ impl<'a, T: Tree> Model for Under<'a, T> {
 
 impl<'a, T: Tree> Under<'a, T> {
     /// All of them.
-    pub(crate) fn of<L: Ledger>(
-        tree: &'a T,
-        parent: Option<u64>,
-        steps: &mut Steps<L>,
-    ) -> Under<'a, T>
+    fn of<L: Ledger>(tree: &'a T, parent: Option<u64>, steps: &mut Steps<L>) -> Under<'a, T>
         ensures all { result ≡ spec.subs_under parent (T.nodes tree.now) }
         ensures tree { IfSome parent (λ _. IsTrue (is_tree (T.nodes tree.now))) }
         ensures cost { steps.new ≡ steps.old + 1 }
@@ -59,16 +55,6 @@ impl<'a, T: Tree> Under<'a, T> {
         }
     }
 
-    /// Whether none is left.
-    pub(crate) fn is_empty(&self) -> bool
-        ensures { IsTrue result → self.now ≡ [] }
-    {
-        match self.first {
-            Some(_) => false,
-            None => true,
-        }
-    }
-
     fn first(&self) -> Option<&'a Resource>
         ensures { option_map (λ r. r.now) result ≡ slice_get self.now 0 }
     {
@@ -76,7 +62,7 @@ impl<'a, T: Tree> Under<'a, T> {
     }
 
     /// Takes the first.
-    pub(crate) fn take<L: Ledger>(&mut self, steps: &mut Steps<L>) -> Option<&'a Resource>
+    fn take<L: Ledger>(&mut self, steps: &mut Steps<L>) -> Option<&'a Resource>
         ensures taken { MatchOption result ((self.old ≡ []) × (self.new ≡ []))
             (λ r. self.old ≡ r.now ∷ self.new) }
         ensures cost { MatchOption result (steps.new ≡ steps.old)
@@ -166,6 +152,11 @@ fn comes_next(one: Option<&Resource>, other: Option<&Resource>) -> bool
 }
 
 impl<'a, T: Tree> Watching<'a, T> {
+    /// Whether some are left under the other of the two resources.
+    pub(crate) fn has_above(&self) -> bool {
+        self.above.first().is_some()
+    }
+
     /// Takes the next of them.
     pub(crate) fn take<L: Ledger>(&mut self, steps: &mut Steps<L>) -> Option<&'a Resource>
         ensures taken { MatchOption result ((self.old ≡ []) × (self.new ≡ []))
