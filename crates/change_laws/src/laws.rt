@@ -54,7 +54,8 @@ pub fn what_may_be_done_is_served()
 {}
 
 /// What an operation gives is what is defined of it before anybody is told: the same reply, and the
-/// entity after it, of a sound one, with its changes told behind.
+/// entity after it, of a sound one, with its changes told behind, and then sent to where copies
+/// stand.
 pub fn what_is_done_is_told_behind()
     ensures reply { (op : Op) (e : EntityData) (originator : List ℕ) (request : RequestParts)
         (n : ℕ) → (told_effect_at op e originator request n).reply

@@ -53,10 +53,10 @@ joined_ascend e r (Some f) sound may =
     subst DoAscend (sym may.gone)
     (evicted_ascend (limits_of may.parent) (Some (instance_size r)) e.last may.parent.number e.nodes (tree_from_well_formed e.nodes sound.tree))
 
-pub joined_carried : (e : EntityData) (r : ResourceData) (f : Option ContainerUpdate) (told : Told) → IsSoundEntity e → MayJoin e r f → IsTold e.home e.nodes (notes_of_all e.home e.nodes (gone_by f) (creation_changes e.nodes r (gone_by f))) told → (grown nodes : List ResourceData) (items : List Item) (numbered : ℕ) → grown ≡ nodes_joined e.last e.nodes r f → nodes ≡ all_lowered_to told.left.items grown → IsAppended e told.notes.items items numbered → record { home = e.home; nodes = nodes; next = e.next + 1; last = e.last; items = items; numbered = numbered } ≡ joined_told e r f
+pub joined_carried : (e : EntityData) (r : ResourceData) (f : Option ContainerUpdate) (told : Told) → IsSoundEntity e → MayJoin e r f → IsTold e.home e.nodes (gone_by f) (creation_changes e.nodes r (gone_by f)) told → (grown nodes : List ResourceData) (items : List Item) (numbered : ℕ) → grown ≡ nodes_joined e.last e.nodes r f → nodes ≡ all_lowered_to told.left.items grown → IsAppended e told.notes.items items numbered → record { home = e.home; nodes = nodes; next = e.next + 1; last = e.last; items = items; numbered = numbered } ≡ joined_told e r f
 joined_carried e r f told sound may is grown nodes items numbered first lowered puts =
     let changes = creation_changes e.nodes r (gone_by f) in
-    told_done e.nodes (notes_of_all e.home e.nodes (gone_by f) changes) (after_joining e r f) told (joins_sound e r f sound may) is
+    told_done e.nodes (gone_by f) changes (after_joining e r f) told (joins_sound e r f sound may) is
     (leaves_told e.nodes (notes_of_all e.home e.nodes (gone_by f) changes) (nodes_joined e.last e.nodes r f) (keeps_joined e.home e sound (gone_by f) r changes f may))
     nodes items numbered (lowered ∙ ap (all_lowered_to told.left.items) first) puts.items_are puts.counted
 
@@ -65,11 +65,11 @@ joined_sound e r f sound may = sound_telling e.nodes (gone_by f) (creation_chang
 
 -- ---- an Update
 
-pub updated_carried : (e : EntityData) (r c : ResourceData) (named : List Attr) (gone : List ℕ) (told : Told) → IsSoundEntity e → IsReplacement e c → gone ≡ pushed_by e c → IsTold e.home e.nodes (notes_of_all e.home e.nodes gone (update_changes e.nodes r c named gone)) told → (left nodes : List ResourceData) (items : List Item) (numbered : ℕ) → left ≡ nodes_updated e c → nodes ≡ all_lowered_to told.left.items left → IsAppended e told.notes.items items numbered → record { home = e.home; nodes = nodes; next = e.next; last = e.last; items = items; numbered = numbered } ≡ updated_told e r c named gone
+pub updated_carried : (e : EntityData) (r c : ResourceData) (named : List Attr) (gone : List ℕ) (told : Told) → IsSoundEntity e → IsReplacement e c → gone ≡ pushed_by e c → IsTold e.home e.nodes gone (update_changes e.nodes r c named gone) told → (left nodes : List ResourceData) (items : List Item) (numbered : ℕ) → left ≡ nodes_updated e c → nodes ≡ all_lowered_to told.left.items left → IsAppended e told.notes.items items numbered → record { home = e.home; nodes = nodes; next = e.next; last = e.last; items = items; numbered = numbered } ≡ updated_told e r c named gone
 updated_carried e r c named gone told sound new out is left nodes items numbered first lowered puts =
     let pushed : List ℕ = pushed_by e c in
-    told_done e.nodes (notes_of_all e.home e.nodes pushed (update_changes e.nodes r c named pushed)) (record e { nodes = nodes_updated e c }) told (sound_updated e c sound new)
-    (subst (λ (ns : List ℕ). IsTold e.home e.nodes (notes_of_all e.home e.nodes ns (update_changes e.nodes r c named ns)) told) out is)
+    told_done e.nodes pushed (update_changes e.nodes r c named pushed) (record e { nodes = nodes_updated e c }) told (sound_updated e c sound new)
+    (subst (λ (ns : List ℕ). IsTold e.home e.nodes ns (update_changes e.nodes r c named ns) told) out is)
     (leaves_told e.nodes (notes_of_all e.home e.nodes pushed (update_changes e.nodes r c named pushed)) (nodes_updated e c) (keeps_updated e.home e sound pushed r c named new))
     nodes items numbered (lowered ∙ ap (all_lowered_to told.left.items) first) puts.items_are puts.counted
     ∙ ap (updated_told e r c named) (sym out)
@@ -88,9 +88,9 @@ pub below_removed : (n : ℕ) (nodes : List ResourceData) → is_tree nodes ≡ 
 below_removed n nodes tree =
     ap (map deleted) (those_all nodes (filter (is_at_or_below n nodes) nodes) (λ k s got. placed_stands (is_at_or_below n nodes) nodes k s tree got))
 
-pub removed_carried : (e : EntityData) (n : ℕ) (told : Told) → IsSoundEntity e → spares_first (has_number n) e.nodes ≡ true → IsTold e.home e.nodes (notes_of_all e.home e.nodes (numbers_below n e.nodes) (deletion_changes e.nodes n)) told → (left nodes : List ResourceData) (items : List Item) (numbered : ℕ) → left ≡ without (has_number n) e.nodes → nodes ≡ all_lowered_to told.left.items left → IsAppended e told.notes.items items numbered → record { home = e.home; nodes = nodes; next = e.next; last = e.last; items = items; numbered = numbered } ≡ removed_told e n
+pub removed_carried : (e : EntityData) (n : ℕ) (told : Told) → IsSoundEntity e → spares_first (has_number n) e.nodes ≡ true → IsTold e.home e.nodes (numbers_below n e.nodes) (deletion_changes e.nodes n) told → (left nodes : List ResourceData) (items : List Item) (numbered : ℕ) → left ≡ without (has_number n) e.nodes → nodes ≡ all_lowered_to told.left.items left → IsAppended e told.notes.items items numbered → record { home = e.home; nodes = nodes; next = e.next; last = e.last; items = items; numbered = numbered } ≡ removed_told e n
 removed_carried e n told sound spared is left nodes items numbered first lowered puts =
-    told_done e.nodes (notes_of_all e.home e.nodes (numbers_below n e.nodes) (deletion_changes e.nodes n)) (record e { nodes = without (has_number n) e.nodes }) told (sound_removed (has_number n) e sound spared) is
+    told_done e.nodes (numbers_below n e.nodes) (deletion_changes e.nodes n) (record e { nodes = without (has_number n) e.nodes }) told (sound_removed (has_number n) e sound spared) is
     (leaves_told e.nodes (notes_of_all e.home e.nodes (numbers_below n e.nodes) (deletion_changes e.nodes n)) (without (has_number n) e.nodes) (keeps_removed e.home e sound (numbers_below n e.nodes) (has_number n) (deletion_changes e.nodes n)))
     nodes items numbered (lowered ∙ ap (all_lowered_to told.left.items) first) puts.items_are puts.counted
 

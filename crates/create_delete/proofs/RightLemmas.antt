@@ -6,6 +6,7 @@ use Rattle.m2m_names.specs.declared.codes.Rsc.{Rsc}
 use Rattle.m2m_names.specs.declared.operations.Op.{Op}
 use Rattle.m2m_names.specs.declared.operations.Op.TheVariants.{Create, Retrieve, Update, Delete, Notify}
 use Rattle.m2m_names.specs.declared.types.Ty.TheVariants.{Container}
+use Rattle.primitive_json.specs.declared.note.NoteParts.{NoteParts}
 use Rattle.primitive_json.specs.declared.request.RequestParts.{RequestParts}
 use Rattle.resource_model.specs.Resource.{ResourceData, has_number, is_ty}
 use Rattle.subscription_match.specs.Notices.{notes_of_all}
@@ -13,7 +14,7 @@ use Rattle.subscription_match.specs.declared.drafts.DraftParts.{DraftParts}
 use Rattle.tree_model.specs.Changes.{ChangeData, update_changes}
 use Rattle.tree_model.specs.Tree.{at, instances_of}
 use Rattle.container_limits.specs.Limits.{kept, limits_of}
-use Rattle.entity_model.specs.Entity.{EntityData, with_told}
+use Rattle.entity_model.specs.Entity.{EntityData, copy_requests, with_told}
 use Rattle.entity_model.specs.Places.{Effect}
 use Rattle.entity_model.specs.Sound.{IsSoundEntity}
 use Rattle.entity_model.proofs.SoundLemmas.{sound_removed}
@@ -115,6 +116,9 @@ module _ (e : EntityData) (o : List ℕ) (request : RequestParts) (n : ℕ) (sou
   abbrev drafts : Op → List DraftParts
   drafts op = drafts_at op e o request n
 
+  abbrev requests : Op → List NoteParts
+  requests op = copy_requests (left op).home e.nodes (changes_by op request n e (left op))
+
   create_keeps : fault_at Create e o request n ≡ None → KeepsTold e.nodes (drafts Create) (left Create).nodes
   create_keeps none =
       let c = create e o request n sound originator none in
@@ -159,7 +163,7 @@ module _ (e : EntityData) (o : List ℕ) (request : RequestParts) (n : ℕ) (sou
   keeps Delete none = delete_keeps none
   keeps Notify none = same_keeps Notify (notify_same e o request n none)
 
-  told_is : (op : Op) → fault_at op e o request n ≡ None → (told_effect_at op e o request n).after ≡ with_told e.nodes (drafts op) (left op)
+  told_is : (op : Op) → fault_at op e o request n ≡ None → (told_effect_at op e o request n).after ≡ with_told e.nodes (drafts op) (requests op) (left op)
   told_is op none =
       let found = found_at op e o request n none in
       told_after op e o request n found.0 (left op) found.1 none refl
@@ -168,12 +172,12 @@ module _ (e : EntityData) (o : List ℕ) (request : RequestParts) (n : ℕ) (sou
   by_right_or_refused op (Some f) is = subst (ChangesByRight op e o n (drafts op)) (sym (ap (λ (x : Effect). x.after) (told_refused_at op e o request n f is))) (unchanged op e o n (drafts op))
   by_right_or_refused op None none =
       subst (ChangesByRight op e o n (drafts op)) (sym (told_is op none))
-      (told_right op e o n (drafts op) (left op) (stays_sound op e o request n sound originator) (keeps op none) (changes_by_right op e o request n sound originator))
+      (told_right op e o n (drafts op) (requests op) (left op) (stays_sound op e o request n sound originator) (keeps op none) (changes_by_right op e o request n sound originator))
 
   sound_or_refused : (op : Op) (x : Option Rsc) → fault_at op e o request n ≡ x → IsSoundEntity (told_effect_at op e o request n).after
   sound_or_refused op (Some f) is = subst IsSoundEntity (sym (ap (λ (x : Effect). x.after) (told_refused_at op e o request n f is))) sound
   sound_or_refused op None none =
-      subst IsSoundEntity (sym (told_is op none)) (sound_told e.nodes (drafts op) (left op) (stays_sound op e o request n sound originator))
+      subst IsSoundEntity (sym (told_is op none)) (sound_told e.nodes (drafts op) (requests op) (left op) (stays_sound op e o request n sound originator))
 
 -- what an operation changes, and what is told of it, it does by right
 pub told_by_right : (op : Op) (e : EntityData) (o : List ℕ) (request : RequestParts) (n : ℕ) → IsSoundEntity e → is_originator o ≡ true → ChangesByRight op e o n (drafts_at op e o request n) (told_effect_at op e o request n).after

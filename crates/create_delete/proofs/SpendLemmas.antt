@@ -10,6 +10,7 @@ use Rattle.m2m_names.specs.Types.{does_take}
 use Rattle.m2m_names.specs.declared.operations.Op.{Op}
 use Rattle.m2m_names.specs.declared.types.Ty.{Ty}
 use Rattle.m2m_names.specs.declared.types.Ty.TheVariants.{Subscription}
+use Rattle.primitive_json.specs.declared.note.NoteParts.{NoteParts}
 use Rattle.resource_model.specs.Resource.{ResourceData}
 use Rattle.attribute_rules.specs.Kinds.{are_kinds}
 use Rattle.subscription_match.specs.Spending.{count_for, is_spent, left_of, left_to, lowered, nodes_spent}
@@ -48,12 +49,12 @@ spent_now drafts r is = by (left_of drafts r) refl is
         let rest : left ≡ from.old - count_for r.number drafts = from.rest in
         record { old = from.old; counted = from.counted; told = from.told; all = omega (arith, none, rest) }
 
-module _ (op : Op) (e : EntityData) (o : List ℕ) (n : ℕ) (drafts : List DraftParts) (after : EntityData) (sound : IsSoundEntity after) (keeps : KeepsTold e.nodes drafts after.nodes) (right : ChangesByRight op e o n [] after) where
+module _ (op : Op) (e : EntityData) (o : List ℕ) (n : ℕ) (drafts : List DraftParts) (requests : List NoteParts) (after : EntityData) (sound : IsSoundEntity after) (keeps : KeepsTold e.nodes drafts after.nodes) (right : ChangesByRight op e o n [] after) where
   abbrev left : List ResourceData
   left = nodes_spent drafts after.nodes
 
   abbrev told : EntityData
-  told = with_told e.nodes drafts after
+  told = with_told e.nodes drafts requests after
 
   tree : is_tree after.nodes ≡ true
   tree = tree_from_well_formed after.nodes sound.tree

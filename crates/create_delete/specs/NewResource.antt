@@ -41,8 +41,8 @@ pub record IsNewInstance (e : EntityData) (r c : ResourceData) (st : ℕ) : Type
   pub small : st < count_bound
 
 -- What may take the place of the resource of its number: that one stands as this does, its policies
--- are known, its attributes are those of its type and stand in order, a container has its state tag,
--- and it expires later. No instance is changed (TS-0001, 10.2.4).
+-- are known, its attributes are those of its type and stand in order, a container has its state
+-- tag, and it expires later. No instance is changed (TS-0001, 10.2.4).
 pub record IsReplacement (e : EntityData) (c : ResourceData) : Type 0 where
   pub stood : option_map standing (at c.number e.nodes) ≡ Some (standing c)
   pub ids : IsTrue (has_known_ids e.next c)

@@ -1,16 +1,19 @@
-//! What an operation tells subscriptions (TS-0001, 9.6.8), before anything is changed.
+//! What an operation tells subscriptions (TS-0001, 9.6.8), and sends to where copies of resources
+//! stand (9.6.26), before anything is changed.
 ghost use Rattle.std.specs.Prelude.{◌≡◌, ℕ, ◌≤◌, List, [], length, IfOk, IsTrue, Some};
 ghost use Rattle.resource_model.specs.Home.{HomeData};
 ghost use Rattle.resource_model.specs.Resource.{ResourceData};
 ghost use Rattle.subscription_match.specs.Notices.{notes_of_all};
 ghost use Rattle.tree_model.specs.Changes.{creation_changes, deletion_changes, update_changes};
 ghost use Rattle.tree_model.specs.Tree.{at, children_of, has, is_well_formed, number_at, DoAscend};
+ghost use Rattle.entity_model.specs.Entity.{copy_requests};
 ghost use Rattle.entity_model.specs.Telling.{IsTold};
 ghost use Rattle.create_delete.specs.Joining.{gone_by};
 ghost use Rattle.create_delete.specs.Telling as spec;
 
 use crate::gathering::numbers_below;
 use crate::joining::ContainerUpdate;
+use announce_copy::announces_below;
 use entity_model::{Told, nothing_told, prepare_telling};
 use notify_outbox::Outbox;
 use std::alloc::{AllocError as OutOfMemory, Global};
@@ -26,9 +29,8 @@ pub(crate) fn prepare_creation<T: Tree>(
     update: &Option<ContainerUpdate>,
 ) -> Result<Told, OutOfMemory>
     requires { DoAscend (gone_by update.now) }
-    ensures told { IfOk result (IsTold home.now (T.nodes tree.now)
-        (notes_of_all home.now (T.nodes tree.now) (gone_by update.now)
-        (creation_changes (T.nodes tree.now) resource.now (gone_by update.now)))) }
+    ensures told { IfOk result (IsTold home.now (T.nodes tree.now) (gone_by update.now)
+        (creation_changes (T.nodes tree.now) resource.now (gone_by update.now))) }
     ensures room { IfOk result (λ t. length t.notes.items ≤ outbox.new.room) }
     ensures items { outbox.new.items ≡ outbox.old.items }
     ensures count { outbox.new.count ≡ outbox.old.count }
@@ -38,7 +40,8 @@ pub(crate) fn prepare_creation<T: Tree>(
         None => &[],
     };
     let changes = Changes::of_creation(tree, resource, gone);
-    prepare_telling(alloc, tree, home, outbox, gone, changes)
+    let again = Changes::of_creation(tree, resource, gone);
+    prepare_telling(alloc, tree, home, outbox, gone, changes, again)
 }
 
 /// What an Update of these attributes tells that leaves a resource so and pushes out the instances
@@ -54,9 +57,8 @@ pub(crate) fn prepare_update<T: Tree>(
 ) -> Result<Told, OutOfMemory>
     requires { DoAscend gone.now }
     ensures told { (r : ResourceData) → at resource.now.number (T.nodes tree.now) ≡ Some r
-        → IfOk result (IsTold home.now (T.nodes tree.now)
-        (notes_of_all home.now (T.nodes tree.now) gone.now
-        (update_changes (T.nodes tree.now) r resource.now named.now gone.now))) }
+        → IfOk result (IsTold home.now (T.nodes tree.now) gone.now
+        (update_changes (T.nodes tree.now) r resource.now named.now gone.now)) }
     ensures room { IfOk result (λ t. length t.notes.items ≤ outbox.new.room) }
     ensures items { outbox.new.items ≡ outbox.old.items }
     ensures count { outbox.new.count ≡ outbox.old.count }
@@ -64,14 +66,16 @@ pub(crate) fn prepare_update<T: Tree>(
     match tree.get(resource.number()) {
         Some(before) => {
             let changes = Changes::of_update(tree, before, resource, named, gone);
-            prepare_telling(alloc, tree, home, outbox, gone, changes)
+            let again = Changes::of_update(tree, before, resource, named, gone);
+            prepare_telling(alloc, tree, home, outbox, gone, changes, again)
         }
         None => Ok(nothing_told(alloc)),
     }
 }
 
 /// What the deletion of the resource of a number tells, with room for it in the outbox. Where no
-/// subscription stands beside it or below, nothing is sought and no memory is taken.
+/// subscription stands beside it or below, and nothing there is announced, nothing is sought and no
+/// memory is taken.
 pub(crate) fn prepare_deletion<T: Tree>(
     alloc: Global,
     tree: &T,
@@ -82,21 +86,41 @@ pub(crate) fn prepare_deletion<T: Tree>(
     requires there { IsTrue (has target (T.nodes tree.now)) }
     requires formed { IsTrue (is_well_formed (T.nodes tree.now)) }
     ensures told { IfOk result (IsTold home.now (T.nodes tree.now)
-        (notes_of_all home.now (T.nodes tree.now) (spec.numbers_below target (T.nodes tree.now))
-        (deletion_changes (T.nodes tree.now) target))) }
+        (spec.numbers_below target (T.nodes tree.now))
+        (deletion_changes (T.nodes tree.now) target)) }
     ensures room { IfOk result (λ t. length t.notes.items ≤ outbox.new.room) }
     ensures items { outbox.new.items ≡ outbox.old.items }
     ensures count { outbox.new.count ≡ outbox.old.count }
 {
-    if is_unheard(tree, target) {
+    if is_unnoticed(tree, target) {
         return Ok(nothing_told(alloc));
     }
     let going = numbers_below(alloc, tree, target)?;
     let changes = Changes::of_removal(tree, going.entries());
-    prepare_telling(alloc, tree, home, outbox, going.entries(), changes)
+    let again = Changes::of_removal(tree, going.entries());
+    prepare_telling(alloc, tree, home, outbox, going.entries(), changes, again)
 }
 
-// Whether nobody is told of the deletion of the resource of a number.
+// Whether nobody is told of the deletion of the resource of a number, and no copy is taken away.
+fn is_unnoticed<T: Tree>(tree: &T, target: u64) -> bool
+    requires { IsTrue (is_well_formed (T.nodes tree.now)) }
+    ensures told { IsTrue result → (home : HomeData) (going : List ℕ)
+        → notes_of_all home (T.nodes tree.now) going (deletion_changes (T.nodes tree.now) target)
+        ≡ [] }
+    ensures sent { IsTrue result → (home : HomeData)
+        → copy_requests home (T.nodes tree.now) (deletion_changes (T.nodes tree.now) target)
+        ≡ [] }
+{
+    if !is_unheard(tree, target) {
+        return false;
+    }
+    if announces_below(tree, target) {
+        return false;
+    }
+    true
+}
+
+// Whether nobody is told of it.
 fn is_unheard<T: Tree>(tree: &T, target: u64) -> bool
     requires { IsTrue (is_well_formed (T.nodes tree.now)) }
     ensures { IsTrue result → (home : HomeData) (going : List ℕ)

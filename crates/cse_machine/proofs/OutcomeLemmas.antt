@@ -1,5 +1,5 @@
 -- What comes of a request to a resource, and that it is a step.
-use Rattle.std.proofs.Common.{◌≡◌, ◌⊎◌, ℕ, List, true, false, ◌&&◌, Option, Some, None, Result, Ok, Err, inl, inr, refl, sym, ap, ◌∙◌}
+use Rattle.std.proofs.Common.{◌≡◌, ◌⊎◌, ℕ, List, true, false, Option, Some, None, Result, Ok, Err, inl, inr, refl, sym, ap, ◌∙◌}
 use Rattle.std.specs.Option.{option_map_or}
 use Rattle.m2m_names.specs.declared.codes.Rsc.{Rsc}
 use Rattle.m2m_names.specs.declared.codes.Rsc.TheVariants.{BadRequest, NotFound, NotReachable}
@@ -26,7 +26,7 @@ use Rattle.retarget.specs.Routes.{forwarded, routed}
 use Rattle.retarget.specs.declared.routing.Route.{Route}
 use Rattle.retarget.specs.declared.routing.Route.TheVariants as to
 use Rattle.group_fanout.specs.Rights.{claimed_originator}
-use Rattle.cse_machine.specs.Step.{has_fewer_items, has_reply, IsAnswered, IsUnswept, Step, took}
+use Rattle.cse_machine.specs.Step.{IsAnswered, IsUnswept, Occurs, Step}
 
 -- ---- outcomes
 
@@ -123,7 +123,7 @@ came_of request before after (Starved done) is left =
     absurd (no_answer before request (Starved done) (starved_done done) (starved_onward done) is)
 
 -- and what answers it on what is left is a step
-pub answered_step : (reading : ℕ) (request : RequestParts) (before after : EntityData) (outcome : Outcome) → IsAnswered (swept reading before) request outcome after → Step reading (Ask request) before outcome after
+answered_step : (reading : ℕ) (request : RequestParts) (before after : EntityData) (outcome : Outcome) → IsAnswered (swept reading before) request outcome after → Step reading (Ask request) before outcome after
 answered_step reading request before after (Done reply) answered = answered
 answered_step reading request before after (Forward poa onward) answered = answered
 answered_step reading request before after (Item given) answered = absurd answered
@@ -136,10 +136,17 @@ unswept_step reading (Ask request) before after unswept = inr unswept
 unswept_step reading Take before after unswept = unswept
 unswept_step reading Tick before after unswept = unswept
 
--- an answer leaves fewer items only as a reply
-pub took_is : (before after : EntityData) (request : RequestParts) (outcome : Outcome) → IsAnswered before request outcome after → (has_reply outcome && has_fewer_items before after) ≡ took before outcome after
-took_is before after request (Done reply) answered = refl
-took_is before after request (Forward poa onward) answered = refl
-took_is before after request (Item given) answered = absurd answered
-took_is before after request Ticked answered = absurd answered
-took_is before after request (Starved done) answered = refl
+-- so what an event gives on what is left is a step
+pub occurs_step : (reading : ℕ) (event : Event) (before after : EntityData) (outcome : Outcome) → Occurs event (swept reading before) outcome after → Step reading event before outcome after
+occurs_step reading (Ask request) before after outcome occurs =
+    answered_step reading request before after outcome occurs
+occurs_step reading Take before after (Done reply) occurs = absurd occurs
+occurs_step reading Take before after (Forward poa onward) occurs = absurd occurs
+occurs_step reading Take before after (Item given) occurs = occurs
+occurs_step reading Take before after Ticked occurs = absurd occurs
+occurs_step reading Take before after (Starved done) occurs = absurd occurs
+occurs_step reading Tick before after (Done reply) occurs = absurd occurs
+occurs_step reading Tick before after (Forward poa onward) occurs = absurd occurs
+occurs_step reading Tick before after (Item given) occurs = absurd occurs
+occurs_step reading Tick before after Ticked occurs = occurs
+occurs_step reading Tick before after (Starved done) occurs = absurd occurs

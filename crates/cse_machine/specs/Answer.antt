@@ -12,13 +12,7 @@ use Rattle.m2m_names.specs.declared.codes.Rsc.TheVariants.{RequestTimeout}
 use Rattle.m2m_names.specs.declared.operations.Op.{Op}
 use Rattle.m2m_names.specs.declared.operations.Op.TheVariants.{Create, Retrieve, Update, Delete}
 use Rattle.m2m_names.specs.declared.operations.Op.TheVariants.{Notify}
-use Rattle.m2m_names.specs.declared.types.Ty.{Ty}
-use Rattle.m2m_names.specs.declared.types.Ty.TheVariants.{AccessControlPolicy, Ae, Container}
-use Rattle.m2m_names.specs.declared.types.Ty.TheVariants.{ContentInstance, CseBase, Group}
-use Rattle.m2m_names.specs.declared.types.Ty.TheVariants.{PollingChannel, RemoteCse, Subscription}
-use Rattle.m2m_names.specs.declared.types.Ty.TheVariants.{AccessControlPolicyAnnc, AeAnnc}
-use Rattle.m2m_names.specs.declared.types.Ty.TheVariants.{ContainerAnnc, ContentInstanceAnnc}
-use Rattle.m2m_names.specs.declared.types.Ty.TheVariants.{GroupAnnc}
+use Rattle.m2m_names.specs.declared.types.Ty.TheVariants.{Ae}
 use Rattle.primitive_json.specs.Form.{has_form}
 use Rattle.primitive_json.specs.Kinds.{blocking_request}
 use Rattle.primitive_json.specs.Members.{creates}
@@ -57,42 +51,6 @@ use Rattle.group_fanout.specs.Rights.{asking, claimed_originator, has_right}
 abbrev pub starved : RequestParts → ReplyParts
 starved request = refusal request Internal
 
--- ---- which requests are served
-
--- the types of which a resource may be created so far, one line each: no announced one; that
--- nothing takes a CSEBase is judged later
-abbrev pub is_creatable : Ty → Bool
-is_creatable AccessControlPolicy = true
-is_creatable Ae = true
-is_creatable Container = true
-is_creatable ContentInstance = true
-is_creatable CseBase = true
-is_creatable Group = true
-is_creatable PollingChannel = true
-is_creatable RemoteCse = true
-is_creatable Subscription = true
-is_creatable AccessControlPolicyAnnc = false
-is_creatable AeAnnc = false
-is_creatable ContainerAnnc = false
-is_creatable ContentInstanceAnnc = false
-is_creatable GroupAnnc = false
-
--- a type that isn't known is judged later
-abbrev pub has_creatable_type : RequestParts → Bool
-has_creatable_type request = option_map_or is_creatable (child_ty request) true
-
--- which requests of an operation are served so far
-abbrev pub does_serve : Op → RequestParts → Bool
-does_serve Create request = has_creatable_type request
-does_serve Retrieve request = true
-does_serve Update request = true
-does_serve Delete request = true
-does_serve Notify request = true
-
--- The request is served so far.
-abbrev pub is_served : RequestParts → Bool
-is_served request = does_serve request.op request
-
 -- ---- where a request is refused whatever its address names
 
 -- The request registers an application entity (TS-0001, 10.2.2.2).
@@ -128,8 +86,7 @@ abbrev pub is_blocking : RequestParts → Bool
 is_blocking request = option_map_or (λ z. int_eq z blocking_request) request.rt true
 
 -- these places, from the last back to the first: by when and how it is answered; by its address; by
--- its originator; by its other parameters; and as one that isn't served yet, which counts as
--- malformed (TS-0004, 7.3.2.1)
+-- its originator; and by its other parameters (TS-0004, 7.3.2.1)
 abbrev pub time_places : EntityData → RequestParts → List Check
 time_places e request =
     unless (is_in_time e request) RequestTimeout ∷ unless (is_blocking request) NonBlocking ∷ []
@@ -144,13 +101,10 @@ abbrev pub originator_places : EntityData → RequestParts → List Check
 originator_places e request =
     unless (has_originator e.home request) BadRequest ∷ address_places e request
 
--- These places, and before them that the request's parameters are of their kinds.
-abbrev pub form_places : EntityData → RequestParts → List Check
-form_places e request = unless (has_form request) BadRequest ∷ originator_places e request
-
--- All places before the address is resolved, in order (TS-0004, 7.3.3).
+-- All places before the address is resolved, in order: these, and before them that the request's
+-- parameters are of their kinds (TS-0004, 7.3.3).
 abbrev pub first_places : EntityData → RequestParts → List Check
-first_places e request = unless (is_served request) BadRequest ∷ form_places e request
+first_places e request = unless (has_form request) BadRequest ∷ originator_places e request
 
 -- ---- one request to an address here
 

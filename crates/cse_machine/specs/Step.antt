@@ -1,5 +1,5 @@
 -- One event of a CSE (TS-0001, 10.1; TS-0004, 7.2).
-use Rattle.std.specs.Prelude.{◌≡◌, ◌⊎◌, ℕ, nat_lt, List, [], length, Bool, true, false, is_some}
+use Rattle.std.specs.Prelude.{◌≡◌, ◌⊎◌, ℕ, nat_lt, List, [], length, Bool, false, is_some}
 use Rattle.std.specs.Prelude.{IsTrue}
 use Rattle.std.specs.Option.{option_map_or}
 use Rattle.primitive_json.specs.declared.request.RequestParts.{RequestParts}
@@ -38,6 +38,22 @@ IsAnswered e request (Item given) after = ⊥
 IsAnswered e request Ticked after = ⊥
 IsAnswered e request (Starved done) after = IsCutShort e request done after
 
+-- What an event may give on an entity from which what is due is gone, and the entity that it may
+-- leave: a request is answered on it, and what it changes is told; or the next item of the outbox
+-- is given away; or nothing is done.
+abbrev pub Occurs : Event → EntityData → Outcome → EntityData → Type 0
+Occurs (Ask request) e outcome after = IsAnswered e request outcome after
+Occurs Take e (Done reply) after = ⊥
+Occurs Take e (Forward poa onward) after = ⊥
+Occurs Take e (Item given) after = (given ≡ next_note e) × (after ≡ without_next e)
+Occurs Take e Ticked after = ⊥
+Occurs Take e (Starved done) after = ⊥
+Occurs Tick e (Done reply) after = ⊥
+Occurs Tick e (Forward poa onward) after = ⊥
+Occurs Tick e (Item given) after = ⊥
+Occurs Tick e Ticked after = after ≡ e
+Occurs Tick e (Starved done) after = ⊥
+
 -- Memory ran out in the expiry, which takes none where nothing is due: nothing has changed.
 pub record IsUnswept (reading : ℕ) (before : EntityData) (done : ℕ) (after : EntityData)
     : Type 0 where
@@ -73,24 +89,20 @@ Step reading Tick before (Starved done) after = IsUnswept reading before done af
 
 -- ---- what is taken
 
--- the event was a request that was answered by a reply
-abbrev pub has_reply : Outcome → Bool
-has_reply (Done reply) = true
-has_reply (Forward poa onward) = false
-has_reply (Item given) = false
-has_reply Ticked = false
-has_reply (Starved done) = false
-
 -- fewer items stand in the outbox than before
 abbrev pub has_fewer_items : EntityData → EntityData → Bool
 has_fewer_items before after = nat_lt (length after.items) (length before.items)
 
--- An event of which this came took an item of the outbox, where the expiry had left this entity: the
--- next item was given away, or a poll was given one. A request that is answered by a reply leaves
--- fewer items only so (TS-0001, 9.6.22).
+-- an event of which this came took an item of the outbox, where so many stood in it before, and so
+-- many after: the next item was given away, or a poll was given one. A request that is answered by
+-- a reply leaves fewer items only so (TS-0001, 9.6.22).
+abbrev pub took_of : ℕ → ℕ → Outcome → Bool
+took_of before after (Done reply) = nat_lt after before
+took_of before after (Forward poa onward) = false
+took_of before after (Item given) = is_some given
+took_of before after Ticked = false
+took_of before after (Starved done) = false
+
+-- An event of which this came took an item of the outbox, where the expiry had left this entity.
 abbrev pub took : EntityData → Outcome → EntityData → Bool
-took before (Done reply) after = has_fewer_items before after
-took before (Forward poa onward) after = false
-took before (Item given) after = is_some given
-took before Ticked after = false
-took before (Starved done) after = false
+took before outcome after = took_of (length before.items) (length after.items) outcome

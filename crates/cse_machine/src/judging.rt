@@ -7,36 +7,11 @@ ghost use Rattle.request_rules.specs.Rights.{sole};
 ghost use Rattle.cse_machine.specs.Answer as spec;
 
 use entity_model::Entity;
-use m2m_names::{Op, Ty};
+use m2m_names::Ty;
 use m2m_value::{MemberKey, Val};
 use primitive_json::{Request, When, creates};
 use request_rules::child_ty;
 use tree_model::Tree;
-
-fn is_creatable(ty: Ty) -> bool
-    ensures { result ≡ spec.is_creatable ty }
-{
-    match ty {
-        Ty::AccessControlPolicy | Ty::Ae | Ty::Container | Ty::ContentInstance => true,
-        Ty::CseBase | Ty::Group | Ty::PollingChannel | Ty::RemoteCse | Ty::Subscription => true,
-        Ty::AccessControlPolicyAnnc | Ty::AeAnnc | Ty::ContainerAnnc => false,
-        Ty::ContentInstanceAnnc | Ty::GroupAnnc => false,
-    }
-}
-
-/// Whether the request is one of those that are served so far: all but the creation of an announced
-/// resource.
-pub(crate) fn is_served(request: &Request) -> bool
-    ensures { result ≡ spec.is_served request.now }
-{
-    match request.parts().op {
-        Op::Create => match child_ty(request) {
-            Some(ty) => is_creatable(ty),
-            None => true,
-        },
-        Op::Retrieve | Op::Update | Op::Delete | Op::Notify => true,
-    }
-}
 
 // ---- the originator
 

@@ -5,16 +5,17 @@
 //! outbox, or that time has passed. Outcome and entity are exactly the relation `Step` of
 //! `specs/Step`: one function of the event and of the entity without what is due, and want of
 //! memory as the one free answer. What an expiry or a request changes is told to the subscriptions
-//! that look for it: as items of the outbox, those of the expiry first.
+//! that look for it, as items of the outbox, those of the expiry first.
 //!
-//! Every request may be asked. Those that aren't served yet (`is_served` of `specs/Answer`) are
-//! answered as malformed: the creation of an announced resource. A Notify to an AE is handed on by
-//! an item of the outbox. A Retrieve of a poll point gives the first item that waits for its
-//! channel, which is then taken; a Notify to it is the answer of who polled, and isn't kept. A
-//! request to a fan-out point is done on each member of its group, by the crate group_fanout; where
-//! memory runs out in that, the outcome says how many members are done. A request to another CSE
-//! goes on to it where the crate retarget knows a way: the outcome is where it goes and what is
-//! sent there, and no right is judged here. A content that asks for copies isn't admitted yet.
+//! Every request may be asked. An announced resource, which stands for one of another CSE, is
+//! created, read, updated and deleted as any other. A resource of this CSE that is announced
+//! elsewhere has copies there: what its changes send to them stands in the outbox, behind what they
+//! tell. A Notify to an AE is handed on by an item of the outbox. A Retrieve of a poll point gives
+//! the first item that waits for its channel, which is then taken; a Notify to it is the answer of
+//! who polled, and isn't kept. A request to a fan-out point is done on each member of its group, by
+//! the crate group_fanout; where memory runs out in that, the outcome says how many members are
+//! done. A request to another CSE goes on to it where the crate retarget knows a way: the outcome
+//! is where it goes and what is sent there, and no right is judged here.
 //!
 //! `observe_step` tells besides whether the event took an item of the outbox (`took` of
 //! `specs/Step`): who keeps a journal has to know that of a poll.

@@ -1,6 +1,5 @@
 //! One event after another.
 ghost use Rattle.std.specs.Prelude.{◌≡◌, IfOk, IfSome, IsTrue, Ok, OnErr, Some, option_map};
-ghost use Rattle.std.specs.Prelude.{false, is_some};
 ghost use Rattle.std.specs.Prelude.{option_and_then, IfErr};
 ghost use Rattle.m2m_names.specs.Name.{is_originator};
 ghost use Rattle.tree_model.specs.Tree.{has};
@@ -23,13 +22,13 @@ ghost use Rattle.cse_machine.specs.Answer.{goes_on, onward_effect, point_of, pol
 ghost use Rattle.cse_machine.specs.Answer.{poll_refusal, spot_effect};
 ghost use Rattle.cse_machine.specs.Answer as spec;
 ghost use Rattle.cse_machine.specs.Heard.{IsHeardAs};
-ghost use Rattle.cse_machine.specs.Step.{IsAnswered, Step, heard_members};
+ghost use Rattle.cse_machine.specs.Step.{IsAnswered, Occurs, Step, heard_members};
 ghost use Rattle.cse_machine.specs.Step as steps;
-ghost use Rattle.cse_machine.specs.declared.event.Outcome.TheVariants.{Done, Item};
-ghost use Rattle.entity_model.specs.Entity.{next_note, swept, without_next};
+ghost use Rattle.cse_machine.specs.declared.event.Outcome.TheVariants.{Done};
+ghost use Rattle.entity_model.specs.Entity.{swept};
 
 use crate::event::{Event, ObservedStep, Outcome};
-use crate::judging::{has_answer, is_blocking, is_in_time, is_served, said_originator};
+use crate::judging::{has_answer, is_blocking, is_in_time, said_originator};
 use addressing::{Addr, AddrFault, Segments, Spot, name_segments, parse, short_fr};
 use entity_model::{Entity, refuse, reply_to, sweep, take_next};
 use group_fanout::{Starved, fan, operate};
@@ -49,7 +48,10 @@ use tree_model::Tree;
 pub fn step<T: Tree>(alloc: Global, entity: &mut Entity<T>, reading: u64, event: &Event) -> Outcome
     ensures { Step reading event.now entity.old result entity.new }
 {
-    observe_step(alloc, entity, reading, event).outcome
+    if let Err(_) = sweep(alloc, entity, reading) {
+        return Outcome::Starved { done: 0 };
+    }
+    occur(alloc, entity, event)
 }
 
 /// Takes one event as `step` does, and tells besides whether it took an item of the outbox: the
@@ -63,58 +65,45 @@ pub fn observe_step<T: Tree>(
     ensures step { Step reading event.now entity.old result.outcome entity.new }
     ensures took { result.took ≡ steps.took (swept reading entity.old) result.outcome entity.new }
 {
-    if let Err(_) = sweep(alloc, entity, reading) {
-        return untaken(Outcome::Starved { done: 0 });
-    }
-    match event {
-        Event::Ask(request) => observe_ask(alloc, entity, request),
-        Event::Take => observe_take(entity),
-        Event::Tick => untaken(Outcome::Ticked),
-    }
-}
-
-// Of an event that took nothing.
-fn untaken(outcome: Outcome) -> ObservedStep
-    ensures { result ≡ record { outcome = outcome; took = false } }
-{
-    ObservedStep {
-        outcome,
-        took: false,
+    match sweep(alloc, entity, reading) {
+        Ok(()) => observe_event(alloc, entity, event),
+        Err(_) => ObservedStep {
+            outcome: Outcome::Starved { done: 0 },
+            took: false,
+        },
     }
 }
 
-// What a request gives on the entity as it stands, and whether it took an item.
-fn observe_ask<T: Tree>(alloc: Global, entity: &mut Entity<T>, request: &Request) -> ObservedStep
-    ensures step { IsAnswered entity.old request.now result.outcome entity.new }
+// What an event gives on the entity as it stands, and whether it took an item.
+fn observe_event<T: Tree>(alloc: Global, entity: &mut Entity<T>, event: &Event) -> ObservedStep
+    ensures step { Occurs event.now entity.old result.outcome entity.new }
     ensures took { result.took ≡ steps.took entity.old result.outcome entity.new }
 {
     let items = entity.outbox.len();
-    let outcome = ask(alloc, entity, request);
-    let took = has_reply(&outcome) && entity.outbox.len() < items;
+    let outcome = occur(alloc, entity, event);
+    let took = has_taken(&outcome, items, entity.outbox.len());
     ObservedStep { outcome, took }
 }
 
-// Whether a request was answered by a reply.
-fn has_reply(outcome: &Outcome) -> bool
-    ensures { result ≡ steps.has_reply outcome.now }
+// Whether an event of which this came took an item, by how many there were before it and after.
+fn has_taken(outcome: &Outcome, before: u64, after: u64) -> bool
+    ensures { result ≡ steps.took_of before after outcome.now }
 {
     match outcome {
-        Outcome::Done(_) => true,
-        _ => false,
+        Outcome::Done(_) => after < before,
+        Outcome::Item(given) => given.is_some(),
+        Outcome::Forward { .. } | Outcome::Ticked | Outcome::Starved { .. } => false,
     }
 }
 
-// The next item of the outbox, which is taken.
-fn observe_take<T: Tree>(entity: &mut Entity<T>) -> ObservedStep
-    ensures outcome { result.outcome ≡ Item (next_note entity.old) }
-    ensures took { result.took ≡ is_some (next_note entity.old) }
-    ensures after { entity.new ≡ without_next entity.old }
+// What an event gives on the entity as it stands.
+fn occur<T: Tree>(alloc: Global, entity: &mut Entity<T>, event: &Event) -> Outcome
+    ensures { Occurs event.now entity.old result entity.new }
 {
-    let given = take_next(entity);
-    let took = given.is_some();
-    ObservedStep {
-        outcome: Outcome::Item(given),
-        took,
+    match event {
+        Event::Ask(request) => ask(alloc, entity, request),
+        Event::Take => Outcome::Item(take_next(entity)),
+        Event::Tick => Outcome::Ticked,
     }
 }
 
@@ -173,9 +162,6 @@ fn judge<'a, T: Tree>(
     ensures { Judges result (first_fault (first_places entity.now request.now))
         (IsHeardAs entity.now request.now) }
 {
-    if !is_served(request) {
-        return Err(Refusal::Fault(Rsc::BadRequest));
-    }
     if !has_form(request) {
         return Err(Refusal::Fault(Rsc::BadRequest));
     }

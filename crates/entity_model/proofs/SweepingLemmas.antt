@@ -9,14 +9,14 @@ use Rattle.resource_model.specs.Resource.{ResourceData}
 use Rattle.subscription_match.specs.Spending.{left_to, nodes_spent}
 use Rattle.subscription_match.specs.declared.drafts.DraftParts.{DraftParts}
 use Rattle.subscription_match.specs.Notices.{notes_of_all}
-use Rattle.tree_model.specs.Changes.{removal_changes}
+use Rattle.tree_model.specs.Changes.{ChangeData, removal_changes}
 use Rattle.tree_model.specs.Tree.{at, is_due, is_spared, is_tree, live, overdue_numbers, without}
 use Rattle.tree_model.proofs.GrowthLemmas.{at-without, tree_from_well_formed}
 use Rattle.tree_model.proofs.LiveLemmas.{without_none}
 use Rattle.tree_model.proofs.OverdueLemmas.{all_live}
 use Rattle.tree_model.proofs.QuietLemmas.{number_passes}
-use Rattle.entity_model.specs.Entity.{EntityData, expired, expired_told, items_from, numbered_after, still_waiting, with_told}
-use Rattle.entity_model.specs.Expiry.{is_some_due}
+use Rattle.entity_model.specs.Entity.{EntityData, expired, expired_told, items_from, numbered_after, still_waiting, telling}
+use Rattle.entity_model.specs.Expiry.{expiry_changes, is_some_due}
 use Rattle.entity_model.specs.Sound.{IsSoundEntity}
 use Rattle.entity_model.specs.Telling.{all_lowered_to, IsTold, LeavesWhoIsTold}
 use Rattle.entity_model.specs.declared.told.Told.{Told}
@@ -27,8 +27,9 @@ use Rattle.entity_model.proofs.TellingLemmas.{nothing_told}
 -- ---- what is told, carried out
 
 -- appended in order, and with the subscriptions lowered one after another, it is what is told
-pub told_done : (before : List ResourceData) (drafts : List DraftParts) (after : EntityData) (told : Told) → IsSoundEntity after → IsTold after.home before drafts told → LeavesWhoIsTold before drafts after.nodes → (nodes : List ResourceData) (items : List Item) (numbered : ℕ) → nodes ≡ all_lowered_to told.left.items after.nodes → items ≡ after.items ++ items_from after.numbered after.last told.notes.items → numbered ≡ numbered_after after.numbered told.notes.items → record after { nodes = nodes; items = items; numbered = numbered } ≡ with_told before drafts after
-told_done before drafts after told sound is leaves nodes items numbered lowered appended counted =
+pub told_done : (before : List ResourceData) (going : List ℕ) (changes : List ChangeData) (after : EntityData) (told : Told) → IsSoundEntity after → IsTold after.home before going changes told → LeavesWhoIsTold before (notes_of_all after.home before going changes) after.nodes → (nodes : List ResourceData) (items : List Item) (numbered : ℕ) → nodes ≡ all_lowered_to told.left.items after.nodes → items ≡ after.items ++ items_from after.numbered after.last told.notes.items → numbered ≡ numbered_after after.numbered told.notes.items → record after { nodes = nodes; items = items; numbered = numbered } ≡ telling before going changes after
+told_done before going changes after told sound is leaves nodes items numbered lowered appended counted =
+    let drafts : List DraftParts = notes_of_all after.home before going changes in
     let spent : nodes ≡ nodes_spent drafts after.nodes =
     lowered ∙ lowered_is before drafts after.nodes (tree_from_well_formed after.nodes sound.tree)
     (λ r old found left. (counts_to r old (number_passes are_kinds r.number after.nodes r sound.kinds found) left).some)
@@ -65,11 +66,11 @@ pub none_told : (moment : ℕ) (e : EntityData) → IsSoundEntity (expired momen
 none_told moment e sound none = rw none (nothing_told e.nodes (expired moment e) sound)
 
 -- and told and carried out it is what an expiry leaves
-pub told_by_expiry : (e : EntityData) (moment : ℕ) (gone : List ℕ) (told : Told) → IsSoundEntity (expired moment e) → is_tree e.nodes ≡ true → gone ≡ overdue_numbers moment e.nodes → IsTold e.home e.nodes (notes_of_all e.home e.nodes gone (removal_changes e.nodes gone)) told → (nodes aged : List ResourceData) (items waiting : List Item) (numbered count : ℕ) → aged ≡ live moment e.nodes → nodes ≡ all_lowered_to told.left.items aged → waiting ≡ still_waiting moment e.items → count ≡ e.numbered → items ≡ waiting ++ items_from count moment told.notes.items → numbered ≡ numbered_after count told.notes.items → record e { nodes = nodes; last = moment; items = items; numbered = numbered } ≡ expired_told moment e
+pub told_by_expiry : (e : EntityData) (moment : ℕ) (gone : List ℕ) (told : Told) → IsSoundEntity (expired moment e) → is_tree e.nodes ≡ true → gone ≡ overdue_numbers moment e.nodes → IsTold e.home e.nodes gone (removal_changes e.nodes gone) told → (nodes aged : List ResourceData) (items waiting : List Item) (numbered count : ℕ) → aged ≡ live moment e.nodes → nodes ≡ all_lowered_to told.left.items aged → waiting ≡ still_waiting moment e.items → count ≡ e.numbered → items ≡ waiting ++ items_from count moment told.notes.items → numbered ≡ numbered_after count told.notes.items → record e { nodes = nodes; last = moment; items = items; numbered = numbered } ≡ expired_told moment e
 told_by_expiry e moment gone told sound tree all is nodes aged items waiting numbered count aged_is nodes_is waiting_is count_is items_is numbered_is =
     let notes : List ℕ → List DraftParts = λ ns. notes_of_all e.home e.nodes ns (removal_changes e.nodes ns) in
-    told_done e.nodes (notes (overdue_numbers moment e.nodes)) (expired moment e) told sound
-    (subst (λ (ns : List ℕ). IsTold e.home e.nodes (notes ns) told) all is)
+    told_done e.nodes (overdue_numbers moment e.nodes) (expiry_changes moment e.nodes) (expired moment e) told sound
+    (subst (λ (ns : List ℕ). IsTold e.home e.nodes ns (removal_changes e.nodes ns) told) all is)
     (without_leaves (is_due e.nodes moment) (notes (overdue_numbers moment e.nodes)) e.nodes tree)
     nodes items numbered
     (nodes_is ∙ ap (all_lowered_to told.left.items) aged_is)

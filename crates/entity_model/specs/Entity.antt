@@ -15,6 +15,8 @@ use Rattle.subscription_match.specs.Items.{items_of}
 use Rattle.subscription_match.specs.Notices.{notes_of_all}
 use Rattle.subscription_match.specs.Spending.{kept, nodes_spent}
 use Rattle.subscription_match.specs.declared.drafts.DraftParts.{DraftParts}
+use Rattle.announce_copy.specs.Copies.{copies_of_all}
+use Rattle.announce_copy.specs.Items.{copy_notes}
 use Rattle.entity_model.specs.Expiry.{expiry_changes}
 
 -- `next` is the number of the resource that is created next, and `last` the moment of the last
@@ -76,18 +78,27 @@ with_notes notes e = record e {
   numbered = numbered_after e.numbered notes;
 }
 
--- the entity after an operation by which this is told, where these were the resources before it:
--- what is kept of it is appended, and subscriptions that count are lowered, or go
-abbrev pub with_told : List ResourceData → List DraftParts → EntityData → EntityData
-with_told before drafts e =
-    with_notes (items_of e.home before (kept before drafts))
+-- the requests about copies that changes ask for, where these were the resources before them
+-- (TS-0001, 9.6.26 and 10.2.18)
+unfoldable pub copy_requests : HomeData → List ResourceData → List ChangeData → List NoteParts
+copy_requests home before changes = copy_notes home before (copies_of_all home before changes)
+
+-- the entity after an operation by which this is told, and these requests about copies are sent,
+-- where these were the resources before it: what is kept of what is told is appended, and behind it
+-- the requests; and subscriptions that count are lowered, or go
+abbrev pub with_told : List ResourceData → List DraftParts → List NoteParts → EntityData
+    → EntityData
+with_told before drafts requests e =
+    with_notes (items_of e.home before (kept before drafts) ++ requests)
     (record e { nodes = nodes_spent drafts e.nodes })
 
--- the entity after an operation, its changes told; these were the resources before it, and `going`
--- are the numbers of those that its removal takes (TS-0001, 9.6.8 and 10.2.10)
+-- the entity after an operation, its changes told, and sent to where copies of the resources stand;
+-- these were the resources before it, and `going` are the numbers of those that its removal takes
+-- (TS-0001, 9.6.8, 9.6.26 and 10.2.10)
 abbrev pub telling : List ResourceData → List ℕ → List ChangeData → EntityData → EntityData
 telling before going changes e =
-    with_told before (notes_of_all e.home before going changes) e
+    with_told before (notes_of_all e.home before going changes)
+    (copy_requests e.home before changes) e
 
 -- ---- expiry
 

@@ -1,6 +1,6 @@
--- How what is told of an operation is carried out: notes that are ready to be appended, and
--- subscriptions that are lowered one after another.
-use Rattle.std.specs.Prelude.{◌≡◌, ℕ, ◌==◌, nat_lt, List, [], ◌∷◌, Bool, false, filter}
+-- How what is told of an operation is carried out: notes that are ready to be appended, those of
+-- its copies behind the others, and subscriptions that are lowered one after another.
+use Rattle.std.specs.Prelude.{◌≡◌, ℕ, ◌==◌, nat_lt, List, [], ◌∷◌, ◌++◌, Bool, false, filter}
 use Rattle.std.specs.Prelude.{if◌then◌else◌, Option, Some, None}
 use Rattle.std.specs.List.Sorted.{IsStrictlySortedBy}
 use Rattle.std.specs.Map.{keys_of}
@@ -8,17 +8,26 @@ use Rattle.std.specs.Ordering.{nat_cmp}
 use Rattle.resource_model.specs.Home.{HomeData}
 use Rattle.resource_model.specs.Resource.{ResourceData, has_number}
 use Rattle.subscription_match.specs.Items.{items_of}
+use Rattle.subscription_match.specs.Notices.{notes_of_all}
 use Rattle.subscription_match.specs.Spending.{count_for, kept, left_at, left_in, left_to, spent}
 use Rattle.subscription_match.specs.declared.drafts.DraftParts.{DraftParts}
+use Rattle.tree_model.specs.Changes.{ChangeData}
 use Rattle.tree_model.specs.Tree.{at, recounted_at, without}
+use Rattle.entity_model.specs.Entity.{copy_requests}
 use Rattle.entity_model.specs.declared.told.Told.{Told}
 
--- what comes of drafts, by the resources before the operation: the items of those that are kept,
--- and what is left to each subscription that counts and is told something
-pub record IsTold (home : HomeData) (before : List ResourceData) (drafts : List DraftParts)
-    (told : Told) : Type 0 where
-  pub notes : told.notes.items ≡ items_of home before (kept before drafts)
-  pub left : (n : ℕ) → left_in told.left.items n ≡ spent before drafts n
+-- what comes of an operation's changes, by the resources before it, where `going` are the numbers of
+-- those that it removes: the items of the drafts that are kept, and behind them the requests to
+-- where copies stand; and what is left to each subscription that counts and is told something
+pub record IsTold (home : HomeData) (before : List ResourceData) (going : List ℕ)
+    (changes : List ChangeData) (told : Told) : Type 0 where
+  pub notes :
+      told.notes.items
+      ≡ items_of home before (kept before (notes_of_all home before going changes))
+      ++ copy_requests home before changes
+  pub left :
+      (n : ℕ)
+      → left_in told.left.items n ≡ spent before (notes_of_all home before going changes) n
   pub order : IsStrictlySortedBy nat_cmp (keys_of told.left.items)
 
 -- more than so many are left

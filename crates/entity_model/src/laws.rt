@@ -40,8 +40,8 @@ pub fn an_expiry_tells_what_it_takes()
         ≡ map deleted (filter (λ r. not (has r.number (expired moment e).nodes)) e.nodes) }
 {}
 
-/// An entity stays sound where what an operation tells is appended and subscriptions that count are
-/// lowered; and where nothing changed, it stays as it is.
+/// An entity stays sound where what an operation tells and sends is appended and subscriptions that
+/// count are lowered; and where nothing changed, it stays as it is.
 pub fn what_is_told_leaves_an_entity_sound()
     ensures sound { (before : List ResourceData) (going : List ℕ) (changes : List ChangeData)
         (e : EntityData) → IsSoundEntity e → IsSoundEntity (telling before going changes e) }

@@ -10,8 +10,10 @@
 //! something is due. `take_next` takes what is sent next.
 //!
 //! An operation tells of its changes by two calls. `prepare_telling` takes all memory, before the
-//! first change; `tell`, behind the last, needs none: it appends the notes, and lowers the
-//! subscriptions that count, or removes those to which none is left (`telling` of `specs/Entity`).
+//! first change; `tell`, behind the last, needs none: it appends the notes, and behind them the
+//! requests to where copies of the resources stand; and it lowers the subscriptions that count, or
+//! removes those to which none is left (`telling` of `specs/Entity`). Every operation and the
+//! expiry tell by these two.
 //!
 //! Laws over every entity stand on functions without a body: an entity opens sound, and stays sound
 //! where something but the CSEBase is removed, and where something is told; its first resource is

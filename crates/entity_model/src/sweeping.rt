@@ -1,6 +1,5 @@
 //! The expiry.
 ghost use Rattle.std.specs.Prelude.{◌≡◌, ◌≤◌, length, IfOk, OnOk, OnErr, IsTrue};
-ghost use Rattle.subscription_match.specs.Notices.{notes_of_all};
 ghost use Rattle.notify_outbox.specs.Outbox.{dropped};
 ghost use Rattle.tree_model.specs.Changes.{removal_changes};
 ghost use Rattle.tree_model.specs.Tree.{is_tree, live, overdue_numbers, DoAscend};
@@ -66,7 +65,7 @@ fn expire_and_tell<T: Tree>(
     Ok(())
 }
 
-// What the removal of these tells.
+// What the removal of these tells, and sends to where copies stand.
 fn prepare_expiry<T: Tree>(
     alloc: Global,
     tree: &T,
@@ -75,15 +74,15 @@ fn prepare_expiry<T: Tree>(
     gone: &[u64],
 ) -> Result<Told, OutOfMemory>
     requires { DoAscend gone.now }
-    ensures told { IfOk result (IsTold home.now (T.nodes tree.now)
-        (notes_of_all home.now (T.nodes tree.now) gone.now
-        (removal_changes (T.nodes tree.now) gone.now))) }
+    ensures told { IfOk result (IsTold home.now (T.nodes tree.now) gone.now
+        (removal_changes (T.nodes tree.now) gone.now)) }
     ensures room { IfOk result (λ t. length t.notes.items ≤ outbox.new.room) }
     ensures items { outbox.new.items ≡ outbox.old.items }
     ensures count { outbox.new.count ≡ outbox.old.count }
 {
     let changes = Changes::of_removal(tree, gone);
-    prepare_telling(alloc, tree, home, outbox, gone, changes)
+    let again = Changes::of_removal(tree, gone);
+    prepare_telling(alloc, tree, home, outbox, gone, changes, again)
 }
 
 // Time passes: what is due goes, and what has waited the keeping time.

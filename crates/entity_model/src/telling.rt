@@ -1,6 +1,6 @@
 //! What is told of an operation.
 ghost use Rattle.std.specs.Prelude.{◌≡◌, ◌<◌, ◌≤◌, ◌==◌, ◌++◌, [], length, true, IfOk, IsTrue};
-ghost use Rattle.std.specs.Prelude.{if◌then◌else◌, List};
+ghost use Rattle.std.specs.Prelude.{if◌then◌else◌, List, ℕ};
 ghost use Rattle.std.specs.List.{AllByRecursion};
 ghost use Rattle.m2m_names.specs.Ids.{count_bound};
 ghost use Rattle.notify_outbox.specs.declared.item.Item.{Item};
@@ -8,22 +8,26 @@ ghost use Rattle.resource_model.specs.Home.{HomeData};
 ghost use Rattle.resource_model.specs.Resource.{ResourceData};
 ghost use Rattle.subscription_match.specs.Notices.{notes_of_all};
 ghost use Rattle.subscription_match.specs.Spending as spending;
+ghost use Rattle.tree_model.specs.Changes.{ChangeData};
 ghost use Rattle.tree_model.specs.Tree.{is_tree, without_all, DoAscend};
-ghost use Rattle.entity_model.specs.Entity.{items_from, numbered_after};
+ghost use Rattle.entity_model.specs.Entity.{copy_requests, items_from, numbered_after};
 ghost use Rattle.entity_model.specs.Lowering.{some_left, spent_numbers};
 ghost use Rattle.entity_model.specs.Telling as spec;
 ghost use Rattle.entity_model.specs.Telling.{IsTold};
 
 use crate::told::Told;
+use announce_copy::{all_copies, copy_notes};
 use notify_outbox::Outbox;
 use primitive_json::Note;
 use std::alloc::{AllocError as OutOfMemory, Global};
-use subscription_match::{all_notes, items_of, left_to, spend};
+use subscription_match::{Draft, all_notes, items_of, left_to, spend};
 use tree_model::{Changes, Home, Tree};
 
-/// What an operation tells that tells nothing.
+/// What an operation tells that tells nobody, and of which no copy is made or changed.
 pub fn nothing_told(alloc: Global) -> Told
-    ensures told { (home : HomeData) (nodes : List ResourceData) → IsTold home nodes [] result }
+    ensures told { (home : HomeData) (nodes : List ResourceData) (going : List ℕ)
+        (changes : List ChangeData) → notes_of_all home nodes going changes ≡ []
+        → copy_requests home nodes changes ≡ [] → IsTold home nodes going changes result }
     ensures notes { result.notes.items ≡ [] }
 {
     Told {
@@ -33,9 +37,10 @@ pub fn nothing_told(alloc: Global) -> Told
     }
 }
 
-/// Prepares what an operation tells of its changes, and reserves room for it in the outbox. The
-/// tree is the one before the operation, and `going` are the numbers, which ascend, of what it
-/// removes.
+/// Prepares what an operation tells of its changes, and behind it what it sends to where copies
+/// stand, and reserves room for both in the outbox. The tree is the one before the operation, and
+/// `going` are the numbers, which ascend, of what it removes. The changes are handed over twice, as
+/// each list of them is gone through once.
 pub fn prepare_telling<T: Tree>(
     alloc: Global,
     tree: &T,
@@ -43,23 +48,60 @@ pub fn prepare_telling<T: Tree>(
     outbox: &mut Outbox,
     going: &[u64],
     changes: Changes<'_, T>,
+    again: Changes<'_, T>,
 ) -> Result<Told, OutOfMemory>
-    requires { DoAscend going.now }
-    ensures told { IfOk result (IsTold home.now (T.nodes tree.now)
-        (notes_of_all home.now (T.nodes tree.now) going.now changes.entry)) }
+    requires ascend { DoAscend going.now }
+    requires again { again ≡ changes }
+    ensures told { IfOk result
+        (IsTold home.now (T.nodes tree.now) going.now changes.entry) }
     ensures room { IfOk result (λ t. length t.notes.items ≤ outbox.new.room) }
     ensures items { outbox.new.items ≡ outbox.old.items }
     ensures count { outbox.new.count ≡ outbox.old.count }
 {
     let mut drafts = all_notes(alloc, tree, home, going, changes)?;
-    if drafts.is_empty() {
+    let requests = copy_requests(alloc, tree, home, again)?;
+    if is_nothing(&drafts, &requests) {
         return Ok(nothing_told(alloc));
     }
     let left = spend(alloc, tree, &mut drafts)?;
-    let notes = items_of(alloc, tree, home, drafts)?;
+    let told = items_of(alloc, tree, home, drafts)?;
+    let notes = with_requests(told, requests)?;
     let spent = numbers_spent(alloc, &left)?;
     outbox.reserve(alloc, notes.len() as u64)?;
     Ok(Told { notes, left, spent })
+}
+
+// The requests about copies that the changes ask for.
+#[tactic(auto, unfolding(crate::specs::Entity::copy_requests))]
+fn copy_requests<T: Tree>(
+    alloc: Global,
+    tree: &T,
+    home: &Home,
+    changes: Changes<'_, T>,
+) -> Result<Vec<Note>, OutOfMemory>
+    ensures { IfOk result (λ v. v.items
+        ≡ copy_requests home.now (T.nodes tree.now) changes.entry) }
+{
+    let copies = all_copies(alloc, tree, home, changes)?;
+    copy_notes(alloc, tree, home, copies)
+}
+
+// Whether nobody is told, and nothing is sent to where copies stand.
+fn is_nothing(drafts: &[Draft], requests: &[Note]) -> bool
+    ensures drafts { IsTrue result → drafts.now ≡ [] }
+    ensures requests { IsTrue result → requests.now ≡ [] }
+{
+    drafts.is_empty() && requests.is_empty()
+}
+
+// What is told, and behind it the requests about copies.
+fn with_requests(told: Vec<Note>, requests: Vec<Note>) -> Result<Vec<Note>, OutOfMemory>
+    ensures { IfOk result (λ v. v.items ≡ told.items ++ requests.items) }
+{
+    let mut notes = told;
+    let mut behind = requests;
+    notes.append(&mut behind)?;
+    Ok(notes)
 }
 
 // The numbers of the subscriptions to which none is left.

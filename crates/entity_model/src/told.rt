@@ -11,7 +11,7 @@ use primitive_json::Note;
 /// What an operation tells, for which all memory is taken.
 #[derive(Drop)]
 pub struct Told {
-    /// The notes, in order.
+    /// The notes, in order: what subscriptions are told, and behind it the requests about copies.
     pub notes: Vec<Note>,
     /// The numbers of the subscriptions that count and are told something, in order of creation,
     /// each with how many notifications are left to it: none where it goes.

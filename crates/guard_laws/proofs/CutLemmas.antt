@@ -1,6 +1,6 @@
 -- Where memory runs out in a fan-out, so many of its members are done.
 use Rattle.guard_laws.proofs.Words.{◌≡◌, ℕ, ◌≤◌, List, [], ◌∷◌, take, length, Bool, true, false, Option, Some, None, refl, sym, ap, ◌∙◌, arith, option_map_or}
-use Rattle.guard_laws.proofs.Terms.{is_originator, Rsc, NoPrivilege, NotAllowed, RequestParts, ResourceData, at, Spot, Resource, Fan, Poll, EntityData, first_fault, unless, does_serve, first_places, has_originator, IsCutShort, heard_members, after_members, fanned_requests, is_fanned, may_fan, member_requests, requests_to, rest_of, served_members, claimed_originator}
+use Rattle.guard_laws.proofs.Terms.{is_originator, Rsc, NoPrivilege, NotAllowed, RequestParts, ResourceData, at, Spot, Resource, Fan, Poll, EntityData, first_fault, unless, first_places, has_originator, IsCutShort, heard_members, after_members, fanned_requests, is_fanned, may_fan, member_requests, requests_to, rest_of, served_members, claimed_originator}
 use Rattle.guard_laws.proofs.Facts.{at_number, claimed_valid}
 use Rattle.std.proofs.Math.Seq.{take-nil}
 use Rattle.guard_laws.specs.Guard.{is_fan_point, spot_asked}
@@ -15,7 +15,6 @@ pub record IsHeardFan (e : EntityData) (request : RequestParts) (members : List 
   pub there : at group.number e.nodes ≡ Some group
   pub spot : spot_asked e request ≡ Some (Fan group.number place)
   pub right : may_fan e request group.number ≡ true
-  pub served : does_serve request.op request ≡ true
   pub originator : is_originator (claimed_originator e.home request) ≡ true
   pub are : members ≡ requests_to request (member_addresses e request place group)
 
@@ -25,38 +24,36 @@ pub data Heard (e : EntityData) (request : RequestParts) (members : List Request
   a_fan : IsHeardFan e request members → Heard e request members
 
 module _ (e : EntityData) (request : RequestParts) where
-  on_group : (place : ℕ) (g : ResourceData) (right does : Bool) → does_serve request.op request ≡ true → has_originator e.home request ≡ true → spot_asked e request ≡ Some (Fan g.number place) → at g.number e.nodes ≡ Some g → may_fan e request g.number ≡ right → Heard e request (option_map_or (λ (fault : Rsc). []) (first_fault (unless right NoPrivilege ∷ unless does NotAllowed ∷ [])) (member_requests request (rest_of e.home request.to place) g))
-  on_group place g false does served by is there right = no_fan refl
-  on_group place g true false served by is there right = no_fan refl
-  on_group place g true true served by is there right = a_fan (record {
+  on_group : (place : ℕ) (g : ResourceData) (right does : Bool) → has_originator e.home request ≡ true → spot_asked e request ≡ Some (Fan g.number place) → at g.number e.nodes ≡ Some g → may_fan e request g.number ≡ right → Heard e request (option_map_or (λ (fault : Rsc). []) (first_fault (unless right NoPrivilege ∷ unless does NotAllowed ∷ [])) (member_requests request (rest_of e.home request.to place) g))
+  on_group place g false does by is there right = no_fan refl
+  on_group place g true false by is there right = no_fan refl
+  on_group place g true true by is there right = a_fan (record {
     group = g;
     place = place;
     there = there;
     spot = is;
     right = right;
-    served = served;
     originator = claimed_valid e.home request by;
     are = refl;
   })
 
-  on_fan : (n place : ℕ) (found : Option ResourceData) → does_serve request.op request ≡ true → has_originator e.home request ≡ true → spot_asked e request ≡ Some (Fan n place) → at n e.nodes ≡ found → Heard e request (option_map_or (fanned_requests e request (rest_of e.home request.to place)) found [])
-  on_fan n place None served by is found = no_fan refl
-  on_fan n place (Some g) served by is found =
+  on_fan : (n place : ℕ) (found : Option ResourceData) → has_originator e.home request ≡ true → spot_asked e request ≡ Some (Fan n place) → at n e.nodes ≡ found → Heard e request (option_map_or (fanned_requests e request (rest_of e.home request.to place)) found [])
+  on_fan n place None by is found = no_fan refl
+  on_fan n place (Some g) by is found =
       let number = at_number n e.nodes g found in
-      on_group place g (may_fan e request g.number) (is_fanned request.op) served by
+      on_group place g (may_fan e request g.number) (is_fanned request.op) by
       (is ∙ ap (λ (m : ℕ). Some (Fan m place)) (sym number)) (ap (λ (m : ℕ). at m e.nodes) number ∙ found) refl
 
-  on_spot : (spot : Option Spot) → does_serve request.op request ≡ true → has_originator e.home request ≡ true → spot_asked e request ≡ spot → Heard e request (served_members e request spot)
-  on_spot None served by is = no_fan refl
-  on_spot (Some (Resource n)) served by is = no_fan refl
-  on_spot (Some (Fan n place)) served by is = on_fan n place (at n e.nodes) served by is refl
-  on_spot (Some (Poll channel)) served by is = no_fan refl
+  on_spot : (spot : Option Spot) → has_originator e.home request ≡ true → spot_asked e request ≡ spot → Heard e request (served_members e request spot)
+  on_spot None by is = no_fan refl
+  on_spot (Some (Resource n)) by is = no_fan refl
+  on_spot (Some (Fan n place)) by is = on_fan n place (at n e.nodes) by is refl
+  on_spot (Some (Poll channel)) by is = no_fan refl
 
   by_place : (fault : Option Rsc) → first_fault (first_places e request) ≡ fault → Heard e request (option_map_or (λ (f : Rsc). []) fault (served_members e request (spot_asked e request)))
   by_place (Some fault) is = no_fan refl
   by_place None is =
-      let heard = heard_facts e request is in
-      on_spot (spot_asked e request) heard.served heard.originator refl
+      on_spot (spot_asked e request) (heard_facts e request is).originator refl
 
   pub heard_by : Heard e request (heard_members e request)
   heard_by = by_place (first_fault (first_places e request)) refl
@@ -83,7 +80,7 @@ left_short e request done after short = by (heard_by e request)
 
 -- the members may be sent to
 pub short_send : (e : EntityData) (request : RequestParts) → IsHeardFan e request (heard_members e request) → MaySend e.home request
-short_send e request fan = record { served = fan.served; originator = fan.originator }
+short_send e request fan = record { originator = fan.originator }
 
 -- and outside a fan-out none are
 fan_asked : (e : EntityData) (request : RequestParts) → is_fan_point (spot_asked e request) ≡ false → IsHeardFan e request (heard_members e request) → false ≡ true
@@ -105,4 +102,4 @@ short_last e request done after short = by (left_short e request done after shor
     by : IsLeftShort e request done after → after.last ≡ e.last
     by (undone none same) = ap (λ (x : EntityData). x.last) same
     by (some_done fan left) =
-        ap (λ (x : EntityData). x.last) left ∙ (members_kept (take done (member_addresses e request fan.place fan.group)) e request fan.served).last
+        ap (λ (x : EntityData). x.last) left ∙ (members_kept (take done (member_addresses e request fan.place fan.group)) e request).last

@@ -1,6 +1,6 @@
 -- Nothing is shown or changed but by a grant.
 use Rattle.guard_laws.proofs.Words.{◌≡◌, ℕ, List, true, false, Option, Some, None, option_map, inl, inr, refl, sym, ap, subst, ◌∙◌, arith, ⊤, option_and_then}
-use Rattle.guard_laws.proofs.Terms.{op_row, waits_for, is_originator, Rsc, Fine, Op, Retrieve, Notify, ReplyParts, RequestParts, ResourceData, at, grants, EntityData, Effect, refusal, refused, reply_to, IsSoundEntity, may_do, handed_on, Spot, Resource, Fan, Poll, told_effect_at, Done, Forward, EventEffect, addressed, as_done, does_serve, effect_of, resource_at, is_fanned, member_effect, requests_to, sent_to, singles_of, change_effect, operation_effect, claimed_originator}
+use Rattle.guard_laws.proofs.Terms.{op_row, waits_for, is_originator, Rsc, Fine, Op, Retrieve, Notify, ReplyParts, RequestParts, ResourceData, at, grants, EntityData, Effect, refusal, refused, reply_to, IsSoundEntity, may_do, handed_on, Spot, Resource, Fan, Poll, told_effect_at, Done, Forward, EventEffect, addressed, as_done, effect_of, resource_at, is_fanned, member_effect, requests_to, sent_to, singles_of, change_effect, operation_effect, claimed_originator}
 use Rattle.guard_laws.proofs.Facts.{true≢false, none-some, same_Some, sound_taken, same_reply, changing_at}
 use Rattle.guard_laws.specs.Guard.{is_success, IsGuardedAt, IsGuarded, spot_asked}
 use Rattle.guard_laws.proofs.ChangingLemmas.{IsKept, shows_none, still_kept}
@@ -35,7 +35,7 @@ left_by e request P holds (went_on way) = subst (λ (x : EventEffect). P x.after
 
 -- a request that is fanned out may be sent to each member
 pub may_send : (e : EntityData) (request : RequestParts) → IsFanned e request (effect_of e request) → MaySend e.home request
-may_send e request way = record { served = way.served; originator = way.originator }
+may_send e request way = record { originator = way.originator }
 
 -- a refusal is guarded, whatever the address names
 refused_by : (e : EntityData) (request : RequestParts) (fault : Rsc) (spot : Option Spot) → is_success fault ≡ false → IsGuardedAt spot e request (refusal request fault) e
@@ -55,7 +55,7 @@ guarded e request sound =
     (λ way.
     let x = operation_effect request.op e request way.target in
     subst (λ (spot : Option Spot). IsGuardedAt spot e request x.reply x.after) (sym way.spot)
-    (operated_guarded e request way.target way.there request.op sound way.originator way.served refl way.named))
+    (operated_guarded e request way.target way.there request.op sound way.originator refl way.named))
     (λ way.
     let x = given_note e request way.channel way.note in
     subst (λ (spot : Option Spot). IsGuardedAt spot e request x.reply x.after) (sym way.spot)
@@ -94,7 +94,7 @@ pub sound_effect : (e : EntityData) (request : RequestParts) → IsSoundEntity e
 sound_effect e request sound =
     left_by e request IsSoundEntity sound (comes e request (λ x. IsSoundEntity x.after)
     (λ fault other. sound)
-    (λ way. operated_sound e request way.target way.there request.op sound way.originator way.served)
+    (λ way. operated_sound e request way.target way.there request.op sound way.originator)
     (λ way. sound_taken (waits_for way.channel) e sound)
     (λ way. sound)
     (λ way. (members_sound e.home request (may_send e request way) (member_addresses e request way.place way.group) e (record { sound = sound; home_is = refl })).sound))
@@ -103,11 +103,11 @@ pub kept : (e : EntityData) (request : RequestParts) → Came e request (IsKept 
 kept e request =
     comes e request (IsKept e)
     (λ fault other. still_kept e (refusal request fault))
-    (λ way. operated_kept e request way.target way.there request.op way.served)
+    (λ way. operated_kept e request way.target way.there request.op)
     (λ way. record { home = refl; last = refl; next = omega arith; unserved = λ none. absurd (true≢false none) })
     (λ way. still_kept e (reply_to request Fine None))
     (λ way.
-    let left = members_kept (member_addresses e request way.place way.group) e request way.served in
+    let left = members_kept (member_addresses e request way.place way.group) e request in
     record { home = left.home; last = left.last; next = left.next; unserved = λ none. absurd (true≢false none) })
 
 -- a Retrieve changes no resource
@@ -144,13 +144,12 @@ notified_still e request op =
 pub record Served (e : EntityData) (request : RequestParts) (target : ResourceData) : Type 0 where
   pub there : at target.number e.nodes ≡ Some target
   pub originator : is_originator (claimed_originator e.home request) ≡ true
-  pub served : does_serve request.op request ≡ true
   pub is : effect_of e request ≡ as_done (operation_effect request.op e request target)
 
 served_way : (e : EntityData) (request : RequestParts) (target : ResourceData) → addressed e request.to ≡ Some target → IsOperated e request (effect_of e request) → Served e request target
 served_way e request target named way =
     subst (Served e request) (same_Some way.target target (sym way.named ∙ named))
-    (record { there = way.there; originator = way.originator; served = way.served; is = way.is })
+    (record { there = way.there; originator = way.originator; is = way.is })
 
 done_onward : (reply : ReplyParts) (poa : List ℕ) (onward : RequestParts) → Done reply ≡ Forward poa onward → ⊥
 done_onward reply poa onward same = cc

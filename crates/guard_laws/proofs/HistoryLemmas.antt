@@ -80,7 +80,7 @@ short_same reading request done before after (undone none same) =
 short_same reading request done before after (some_done fan left) =
     let e = swept reading before in
     let addresses = take done (member_addresses e request fan.place fan.group) in
-    swept_same reading before after (subst (IsSame e) (sym left) (members_kept addresses e request fan.served))
+    swept_same reading before after (subst (IsSame e) (sym left) (members_kept addresses e request))
 
 same_starved : (reading : ℕ) (event : Event) (before after : EntityData) (done : ℕ) → Step reading event before (Starved done) after → IsSameEntity reading before after
 same_starved reading (Ask request) before after done step = elim step [

@@ -1,6 +1,6 @@
 -- A request is refused by the first of the places before its address is resolved, or goes by its address.
 use Rattle.guard_laws.proofs.Words.{◌≡◌, [], ◌∷◌, Bool, true, false, Option, Some, None, refl, sym, ap, ◌∙◌, option_map_or}
-use Rattle.guard_laws.proofs.Terms.{Rsc, BadRequest, NonBlocking, RequestTimeout, has_form, RequestParts, address_of, EntityData, first_fault, refused, unless, address_effect, as_done, effect_of, first_places, has_address, has_originator, is_blocking, is_in_time, is_served}
+use Rattle.guard_laws.proofs.Terms.{Rsc, BadRequest, NonBlocking, RequestTimeout, has_form, RequestParts, address_of, EntityData, first_fault, refused, unless, address_effect, as_done, effect_of, first_places, has_address, has_originator, is_blocking, is_in_time}
 use Rattle.guard_laws.specs.Guard.{is_success}
 use Rattle.guard_laws.specs.Heard.{MayBeHeard}
 
@@ -10,17 +10,15 @@ pub data Judged (e : EntityData) (request : RequestParts) : Type 0 where
   is_heard : first_fault (first_places e request) ≡ None → MayBeHeard e request → Judged e request
 
 module _ (e : EntityData) (request : RequestParts) where
-  judged_by : (s k o a t b : Bool) → is_served request ≡ s → has_form request ≡ k → has_originator e.home request ≡ o → has_address e.home request ≡ a → is_in_time e request ≡ t → is_blocking request ≡ b
-      → first_fault (first_places e request) ≡ first_fault (unless s BadRequest ∷ unless k BadRequest ∷ unless o BadRequest ∷ unless a BadRequest ∷ unless t RequestTimeout ∷ unless b NonBlocking ∷ [])
+  judged_by : (k o a t b : Bool) → has_form request ≡ k → has_originator e.home request ≡ o → has_address e.home request ≡ a → is_in_time e request ≡ t → is_blocking request ≡ b
+      → first_fault (first_places e request) ≡ first_fault (unless k BadRequest ∷ unless o BadRequest ∷ unless a BadRequest ∷ unless t RequestTimeout ∷ unless b NonBlocking ∷ [])
       → Judged e request
-  judged_by false k o a t b served form originator address time blocking is = turned_down BadRequest refl is
-  judged_by true false o a t b served form originator address time blocking is = turned_down BadRequest refl is
-  judged_by true true false a t b served form originator address time blocking is = turned_down BadRequest refl is
-  judged_by true true true false t b served form originator address time blocking is = turned_down BadRequest refl is
-  judged_by true true true true false b served form originator address time blocking is = turned_down RequestTimeout refl is
-  judged_by true true true true true false served form originator address time blocking is = turned_down NonBlocking refl is
-  judged_by true true true true true true served form originator address time blocking is = is_heard is (record {
-    served = served;
+  judged_by false o a t b form originator address time blocking is = turned_down BadRequest refl is
+  judged_by true false a t b form originator address time blocking is = turned_down BadRequest refl is
+  judged_by true true false t b form originator address time blocking is = turned_down BadRequest refl is
+  judged_by true true true false b form originator address time blocking is = turned_down RequestTimeout refl is
+  judged_by true true true true false form originator address time blocking is = turned_down NonBlocking refl is
+  judged_by true true true true true form originator address time blocking is = is_heard is (record {
     form = form;
     originator = originator;
     address = address;
@@ -30,8 +28,8 @@ module _ (e : EntityData) (request : RequestParts) where
 
   pub judged : Judged e request
   judged =
-      judged_by (is_served request) (has_form request) (has_originator e.home request) (has_address e.home request) (is_in_time e request) (is_blocking request)
-      refl refl refl refl refl refl refl
+      judged_by (has_form request) (has_originator e.home request) (has_address e.home request) (is_in_time e request) (is_blocking request)
+      refl refl refl refl refl refl
 
   -- what comes of it then
   pub refused_effect : (fault : Rsc) → first_fault (first_places e request) ≡ Some fault → effect_of e request ≡ as_done (refused e request fault)

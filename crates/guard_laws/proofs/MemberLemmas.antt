@@ -1,6 +1,6 @@
 -- What comes of requests to the members of a group, one after another.
 use Rattle.guard_laws.proofs.Words.{◌≡◌, ◌⊎◌, ℕ, zero, suc, ◌≤◌, List, [], ◌∷◌, take, true, false, Option, Some, None, Result, Ok, Err, inl, inr, refl, sym, ap, subst, ◌∙◌, arith, option_and_then}
-use Rattle.guard_laws.proofs.Terms.{is_originator, Rsc, NotAllowed, NotFound, NotReachable, Op, Create, Retrieve, Update, Delete, Notify, RequestParts, HomeData, ResourceData, at, address_of, named_here, spot_of, Addr, Local, Foreign, OtherProvider, AddrFault, Spot, Resource, Fan, Poll, EntityData, Effect, refusal, refused, IsSoundEntity, addressed, does_serve, resource_at, Single, after_members, member_effect, member_effect_at, member_effect_by, requests_to, sent_to, single_of, singles_of, operation_effect, resource_effect, claimed_originator}
+use Rattle.guard_laws.proofs.Terms.{is_originator, Rsc, NotAllowed, NotFound, NotReachable, RequestParts, HomeData, ResourceData, at, address_of, named_here, spot_of, Addr, Local, Foreign, OtherProvider, AddrFault, Spot, Resource, Fan, Poll, EntityData, Effect, refusal, refused, IsSoundEntity, addressed, resource_at, Single, after_members, member_effect, member_effect_at, member_effect_by, requests_to, sent_to, single_of, singles_of, operation_effect, resource_effect, claimed_originator}
 use Rattle.guard_laws.proofs.Facts.{take-map, at_number}
 use Rattle.guard_laws.specs.Guard.{AreGuarded, is_success, spot_asked}
 use Rattle.guard_laws.proofs.ChangingLemmas.{IsKept, still_kept}
@@ -55,25 +55,16 @@ module _ (e : EntityData) (request : RequestParts) where
     | inr way ↦ subst P (sym way.is) (reaches way)
   ]
 
--- it is served wherever it is sent
-pub served_sent : (op : Op) (request : RequestParts) (address : List ℕ) → does_serve op (sent_to request address) ≡ does_serve op request
-served_sent Create request address = refl
-served_sent Retrieve request address = refl
-served_sent Update request address = refl
-served_sent Delete request address = refl
-served_sent Notify request address = refl
-
 -- the entity after it is the same one at the same moment
-pub member_kept : (e : EntityData) (request : RequestParts) → does_serve request.op request ≡ true → IsKept e (member_effect e request)
-member_kept e request served =
+pub member_kept : (e : EntityData) (request : RequestParts) → IsKept e (member_effect e request)
+member_kept e request =
     of_member e request (IsKept e) (λ fault other. still_kept e (refusal request fault))
-    (λ way. operated_kept e request way.target way.there request.op served)
+    (λ way. operated_kept e request way.target way.there request.op)
 
 -- ---- one after another
 
 -- a request may be sent to each of its members
 pub record MaySend (home : HomeData) (request : RequestParts) : Type 0 where
-  pub served : does_serve request.op request ≡ true
   pub originator : is_originator (claimed_originator home request) ≡ true
 
 -- it is the same entity at the same moment
@@ -93,13 +84,13 @@ same_through e middle after first second = record {
 }
 
 -- whatever the addresses, of which some may be left out
-pub members_kept : (addresses : List (List ℕ)) (e : EntityData) (request : RequestParts) → does_serve request.op request ≡ true → IsSame e (after_members e (requests_to request addresses))
-members_kept [] e request served = same_still e
-members_kept (address ∷ addresses) e request served =
-    let one = member_kept e (sent_to request address) (served_sent request.op request address ∙ served) in
+pub members_kept : (addresses : List (List ℕ)) (e : EntityData) (request : RequestParts) → IsSame e (after_members e (requests_to request addresses))
+members_kept [] e request = same_still e
+members_kept (address ∷ addresses) e request =
+    let one = member_kept e (sent_to request address) in
     let left = (member_effect e (sent_to request address)).after in
     same_through e left (after_members left (requests_to request addresses)) (record { home = one.home; last = one.last; next = one.next })
-    (members_kept addresses left request served)
+    (members_kept addresses left request)
 
 -- what each of them leaves so, all of them leave so
 pub members_leave : (P : EntityData → Type 0) (request : RequestParts) → ((e : EntityData) (address : List ℕ) → P e → P (member_effect e (sent_to request address)).after) → (addresses : List (List ℕ)) (e : EntityData) → P e → P (after_members e (requests_to request addresses))
@@ -121,8 +112,8 @@ module _ (home : HomeData) (request : RequestParts) (may : MaySend home request)
       let one = sent_to request address in
       record {
         sound = of_member e one (λ x. IsSoundEntity x.after) (λ fault other. at_home.sound)
-            (λ way. operated_sound e one way.target way.there request.op at_home.sound (asks e at_home.home_is) (served_sent request.op request address ∙ may.served));
-        home_is = (member_kept e one (served_sent request.op request address ∙ may.served)).home ∙ at_home.home_is;
+            (λ way. operated_sound e one way.target way.there request.op at_home.sound (asks e at_home.home_is));
+        home_is = (member_kept e one).home ∙ at_home.home_is;
       }
 
   pub members_sound : (addresses : List (List ℕ)) (e : EntityData) → IsSoundAt home e → IsSoundAt home (after_members e (requests_to request addresses))
@@ -132,7 +123,7 @@ module _ (home : HomeData) (request : RequestParts) (may : MaySend home request)
   member_guarded e address at_home =
       let one = sent_to request address in
       of_member e one (IsGuardedIn e one) (λ fault other. refused_guarded e one fault other)
-      (λ way. operated_guarded e one way.target way.there request.op at_home.sound (asks e at_home.home_is) (served_sent request.op request address ∙ may.served) refl way.named)
+      (λ way. operated_guarded e one way.target way.there request.op at_home.sound (asks e at_home.home_is) refl way.named)
 
   -- each of them is guarded in the entity that the one before it left
   pub members_guarded : (addresses : List (List ℕ)) (e : EntityData) → IsSoundAt home e → AreGuarded e (singles_of e (requests_to request addresses)) (after_members e (requests_to request addresses))

@@ -1,6 +1,6 @@
 -- What an operation on a resource gives is guarded, sound and of the same entity.
 use Rattle.guard_laws.proofs.Words.{◌≡◌, ℕ, List, Bool, true, false, cond, Some, inl, refl, sym, ap, subst, ◌∙◌}
-use Rattle.guard_laws.proofs.Terms.{is_originator, Rsc, Op, Create, Retrieve, Update, Delete, Notify, ReplyParts, RequestParts, ResourceData, at, grants, EntityData, reading_bit, refusal, refused, Effect, IsSoundEntity, is_discovery, may_do, discovered, retrieved, told_effect_at, addressed, does_serve, change_effect, operation_effect, reading_reply, claimed_originator, has_right}
+use Rattle.guard_laws.proofs.Terms.{is_originator, Rsc, Op, Create, Retrieve, Update, Delete, Notify, ReplyParts, RequestParts, ResourceData, at, grants, EntityData, reading_bit, refusal, refused, Effect, IsSoundEntity, is_discovery, may_do, discovered, retrieved, told_effect_at, addressed, change_effect, operation_effect, reading_reply, claimed_originator, has_right}
 use Rattle.guard_laws.proofs.Facts.{discovered_by_right, retrieved_by_right, told_stays_sound, changing_at}
 use Rattle.guard_laws.specs.Guard.{is_success, DoesShow, HasRight, IsGuardedAlone}
 use Rattle.guard_laws.proofs.ChangingLemmas.{IsToldByRight, tells_nothing, shows_none, IsKept, still_kept, change_guarded, create_kept, create_told, delete_kept, delete_told, update_kept, update_told}
@@ -58,35 +58,35 @@ module _ (e : EntityData) (sound : IsSoundEntity e) (request : RequestParts) (r 
 
 -- ---- an operation on a resource
 
--- what a served operation on what its address names gives
+-- what an operation on what its address names gives
 module _ (e : EntityData) (request : RequestParts) (r : ResourceData) (there : at r.number e.nodes ≡ Some r) where
   -- what comes of a change, as what is done on the resource of the number
   as_changed : (op : Op) (P : Effect → Type 0) → P (told_effect_at op e (claimed_originator e.home request) request r.number) → P (change_effect op e request r)
   as_changed op P holds = subst P (sym (changing_at op e request r there)) holds
 
-  pub operated_guarded : (op : Op) → IsSoundEntity e → is_originator (claimed_originator e.home request) ≡ true → does_serve op request ≡ true → request.op ≡ op → addressed e request.to ≡ Some r → IsGuardedIn e request (operation_effect op e request r)
-  operated_guarded Create sound originator served op named =
+  pub operated_guarded : (op : Op) → IsSoundEntity e → is_originator (claimed_originator e.home request) ≡ true → request.op ≡ op → addressed e request.to ≡ Some r → IsGuardedIn e request (operation_effect op e request r)
+  operated_guarded Create sound originator op named =
       as_changed Create (IsGuardedIn e request) (change_guarded e request r there Create sound originator named op (create_told e request r there))
-  operated_guarded Retrieve sound originator served op named = read_guarded e sound request r named op there
-  operated_guarded Update sound originator served op named =
+  operated_guarded Retrieve sound originator op named = read_guarded e sound request r named op there
+  operated_guarded Update sound originator op named =
       as_changed Update (IsGuardedIn e request) (change_guarded e request r there Update sound originator named op (update_told e request r there))
-  operated_guarded Delete sound originator served op named =
+  operated_guarded Delete sound originator op named =
       as_changed Delete (IsGuardedIn e request) (change_guarded e request r there Delete sound originator named op (delete_told e request r there))
-  operated_guarded Notify sound originator served op named = relay_guarded e request r there named op
+  operated_guarded Notify sound originator op named = relay_guarded e request r there named op
 
-  pub operated_sound : (op : Op) → IsSoundEntity e → is_originator (claimed_originator e.home request) ≡ true → does_serve op request ≡ true → IsSoundEntity (operation_effect op e request r).after
-  operated_sound Create sound originator served =
+  pub operated_sound : (op : Op) → IsSoundEntity e → is_originator (claimed_originator e.home request) ≡ true → IsSoundEntity (operation_effect op e request r).after
+  operated_sound Create sound originator =
       as_changed Create (λ x. IsSoundEntity x.after) (told_stays_sound Create e (claimed_originator e.home request) request r.number sound originator)
-  operated_sound Retrieve sound originator served = sound
-  operated_sound Update sound originator served =
+  operated_sound Retrieve sound originator = sound
+  operated_sound Update sound originator =
       as_changed Update (λ x. IsSoundEntity x.after) (told_stays_sound Update e (claimed_originator e.home request) request r.number sound originator)
-  operated_sound Delete sound originator served =
+  operated_sound Delete sound originator =
       as_changed Delete (λ x. IsSoundEntity x.after) (told_stays_sound Delete e (claimed_originator e.home request) request r.number sound originator)
-  operated_sound Notify sound originator served = relay_sound e request r there sound
+  operated_sound Notify sound originator = relay_sound e request r there sound
 
-  pub operated_kept : (op : Op) → does_serve op request ≡ true → IsKept e (operation_effect op e request r)
-  operated_kept Create served = as_changed Create (IsKept e) (create_kept e request r there)
-  operated_kept Retrieve served = still_kept e (reading_reply e request r.number)
-  operated_kept Update served = as_changed Update (IsKept e) (update_kept e request r there)
-  operated_kept Delete served = as_changed Delete (IsKept e) (delete_kept e request r there)
-  operated_kept Notify served = relay_kept e request r there
+  pub operated_kept : (op : Op) → IsKept e (operation_effect op e request r)
+  operated_kept Create = as_changed Create (IsKept e) (create_kept e request r there)
+  operated_kept Retrieve = still_kept e (reading_reply e request r.number)
+  operated_kept Update = as_changed Update (IsKept e) (update_kept e request r there)
+  operated_kept Delete = as_changed Delete (IsKept e) (delete_kept e request r there)
+  operated_kept Notify = relay_kept e request r there

@@ -11,7 +11,7 @@ pub use Rattle.create_delete.specs.Changes.{changes_by}
 pub use Rattle.create_delete.specs.Changing.{create_effect, created_content, told_rows, update_effect, updated_content, updated_resource}
 pub use Rattle.create_delete.specs.Relaying.{notify_effect, notify_on, relayed}
 pub use Rattle.create_delete.specs.Telling.{drafts_at, told_effect, told_effect_at, told_effect_by}
-pub use Rattle.cse_machine.specs.Answer.{EventEffect, address_effect, addressed, as_done, does_serve, effect_of, first_places, goes_on, has_address, has_answer, has_originator, is_blocking, is_in_time, is_served, onward_effect, point_of, poll_effect, resource_at, route_effect, spot_effect}
+pub use Rattle.cse_machine.specs.Answer.{EventEffect, address_effect, addressed, as_done, effect_of, first_places, goes_on, has_address, has_answer, has_originator, is_blocking, is_in_time, onward_effect, point_of, poll_effect, resource_at, route_effect, spot_effect}
 pub use Rattle.cse_machine.specs.History.{History, HistoryLeaves, IsDone}
 pub use Rattle.cse_machine.specs.Step.{IsCutShort, IsUnswept, Step, heard_members}
 pub use Rattle.cse_machine.specs.declared.event.Event.{Event}

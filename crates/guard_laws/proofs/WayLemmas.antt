@@ -1,6 +1,6 @@
 -- What comes of a request: a refusal, or what its operation on a resource gives.
 use Rattle.guard_laws.proofs.Words.{◌≡◌, ℕ, List, [], ◌∷◌, map, Bool, true, false, cond, Option, Some, None, is_some, Result, Ok, Err, inl, inr, refl, sym, ap, subst, ◌∙◌, option_and_then, option_map_or}
-use Rattle.guard_laws.proofs.Terms.{Rsc, BadRequest, NotAllowed, NotFound, NoPrivilege, NotReachable, Fine, RequestTimeout, is_originator, Op, Create, Retrieve, Update, Delete, Notify, NoteParts, ReplyParts, RequestParts, ResourceData, at, has, address_of, named_here, spot_of, Addr, Local, Foreign, OtherProvider, AddrFault, Spot, Resource, Fan, Poll, grants, discovery_bit, retrieve_bit, EntityData, Effect, first_fault, on_found, refusal, refused, reply_alone, reply_to, unless, first_waiting, handed_on, without_waiting, discovered, retrieved, retrieved_of, success, does_serve, has_answer, is_served, has_originator, has_address, is_in_time, is_blocking, EventEffect, as_done, address_effect, goes_on, onward_effect, point_of, poll_effect, resource_at, route_effect, addressed, spot_effect, effect_of, operation_effect, reading_reply, resource_effect, has_form, cse_named, first_url, comes_from_cse, routed_to, fan_effect, fanned, is_fanned, listed_members, may_fan, member_requests, requests_to, rest_of, with_rest, is_discovery, claimed_originator, has_right}
+use Rattle.guard_laws.proofs.Terms.{Rsc, BadRequest, NotAllowed, NotFound, NoPrivilege, NotReachable, Fine, RequestTimeout, is_originator, Op, Create, Retrieve, Update, Delete, Notify, NoteParts, ReplyParts, RequestParts, ResourceData, at, has, address_of, named_here, spot_of, Addr, Local, Foreign, OtherProvider, AddrFault, Spot, Resource, Fan, Poll, grants, discovery_bit, retrieve_bit, EntityData, Effect, first_fault, on_found, refusal, refused, reply_alone, reply_to, unless, first_waiting, handed_on, without_waiting, discovered, retrieved, retrieved_of, success, has_answer, has_originator, has_address, is_in_time, is_blocking, EventEffect, as_done, address_effect, goes_on, onward_effect, point_of, poll_effect, resource_at, route_effect, addressed, spot_effect, effect_of, operation_effect, reading_reply, resource_effect, has_form, cse_named, first_url, comes_from_cse, routed_to, fan_effect, fanned, is_fanned, listed_members, may_fan, member_requests, requests_to, rest_of, with_rest, is_discovery, claimed_originator, has_right}
 use Rattle.guard_laws.proofs.Facts.{cases_Bool, at_number, claimed_valid}
 use Rattle.retarget.specs.declared.routing.Route.TheVariants as to
 use Rattle.guard_laws.specs.Guard.{is_success, spot_asked}
@@ -18,7 +18,6 @@ pub record IsOperated (e : EntityData) (request : RequestParts) (effect : EventE
   pub there : at target.number e.nodes ≡ Some target
   pub named : addressed e request.to ≡ Some target
   pub spot : spot_asked e request ≡ Some (Resource target.number)
-  pub served : does_serve request.op request ≡ true
   pub originator : is_originator (claimed_originator e.home request) ≡ true
   pub is : effect ≡ as_done (operation_effect request.op e request target)
 
@@ -66,7 +65,6 @@ pub record IsFanned (e : EntityData) (request : RequestParts) (effect : EventEff
   pub spot : spot_asked e request ≡ Some (Fan group.number place)
   pub right : may_fan e request group.number ≡ true
   pub op : is_fanned request.op ≡ true
-  pub served : does_serve request.op request ≡ true
   pub originator : is_originator (claimed_originator e.home request) ≡ true
   pub is : effect ≡ as_done (fanned_by e request place group)
 
@@ -115,46 +113,44 @@ module _ (e : EntityData) (request : RequestParts) where
   on_poll channel Delete is op = poll_refused (has_right e request channel)
   on_poll channel Notify is op = on_answer channel (has_right e request channel) (has_answer request) is op refl
 
-  on_resource : (n : ℕ) (found : Option ResourceData) → does_serve request.op request ≡ true → has_originator e.home request ≡ true → spot_asked e request ≡ Some (Resource n) → at n e.nodes ≡ found → Way e request (as_done (resource_effect e request found))
-  on_resource n None served by is found = refuses_by NotFound refl
-  on_resource n (Some r) served by is found = operates (record {
+  on_resource : (n : ℕ) (found : Option ResourceData) → has_originator e.home request ≡ true → spot_asked e request ≡ Some (Resource n) → at n e.nodes ≡ found → Way e request (as_done (resource_effect e request found))
+  on_resource n None by is found = refuses_by NotFound refl
+  on_resource n (Some r) by is found = operates (record {
     target = r;
     there = ap (λ (m : ℕ). at m e.nodes) (at_number n e.nodes r found) ∙ found;
     named = ap (option_and_then (resource_at e.nodes)) is ∙ found;
     spot = is ∙ ap (λ (m : ℕ). Some (Resource m)) (sym (at_number n e.nodes r found));
-    served = served;
     originator = claimed_valid e.home request by;
     is = refl;
   })
 
   -- a fan-out is refused, or done
-  on_group : (place : ℕ) (g : ResourceData) (right does : Bool) → does_serve request.op request ≡ true → has_originator e.home request ≡ true → spot_asked e request ≡ Some (Fan g.number place) → at g.number e.nodes ≡ Some g → may_fan e request g.number ≡ right → is_fanned request.op ≡ does → Way e request (as_done (option_map_or (refused e request) (first_fault (unless right NoPrivilege ∷ unless does NotAllowed ∷ [])) (fanned e request (member_requests request (rest_of e.home request.to place) g))))
-  on_group place g false does served by is there right op = refuses_by NoPrivilege refl
-  on_group place g true false served by is there right op = refuses_by NotAllowed refl
-  on_group place g true true served by is there right op = fans (record {
+  on_group : (place : ℕ) (g : ResourceData) (right does : Bool) → has_originator e.home request ≡ true → spot_asked e request ≡ Some (Fan g.number place) → at g.number e.nodes ≡ Some g → may_fan e request g.number ≡ right → is_fanned request.op ≡ does → Way e request (as_done (option_map_or (refused e request) (first_fault (unless right NoPrivilege ∷ unless does NotAllowed ∷ [])) (fanned e request (member_requests request (rest_of e.home request.to place) g))))
+  on_group place g false does by is there right op = refuses_by NoPrivilege refl
+  on_group place g true false by is there right op = refuses_by NotAllowed refl
+  on_group place g true true by is there right op = fans (record {
     group = g;
     place = place;
     there = there;
     spot = is;
     right = right;
     op = op;
-    served = served;
     originator = claimed_valid e.home request by;
     is = refl;
   })
 
-  on_fan : (n place : ℕ) (found : Option ResourceData) → does_serve request.op request ≡ true → has_originator e.home request ≡ true → spot_asked e request ≡ Some (Fan n place) → at n e.nodes ≡ found → Way e request (as_done (on_found e request (fan_effect e request (rest_of e.home request.to place)) found))
-  on_fan n place None served by is found = refuses_by NotFound refl
-  on_fan n place (Some g) served by is found =
+  on_fan : (n place : ℕ) (found : Option ResourceData) → has_originator e.home request ≡ true → spot_asked e request ≡ Some (Fan n place) → at n e.nodes ≡ found → Way e request (as_done (on_found e request (fan_effect e request (rest_of e.home request.to place)) found))
+  on_fan n place None by is found = refuses_by NotFound refl
+  on_fan n place (Some g) by is found =
       let number = at_number n e.nodes g found in
-      on_group place g (may_fan e request g.number) (is_fanned request.op) served by
+      on_group place g (may_fan e request g.number) (is_fanned request.op) by
       (is ∙ ap (λ (m : ℕ). Some (Fan m place)) (sym number)) (ap (λ (m : ℕ). at m e.nodes) number ∙ found) refl refl
 
-  on_spot : (spot : Option Spot) → does_serve request.op request ≡ true → has_originator e.home request ≡ true → spot_asked e request ≡ spot → Way e request (as_done (spot_effect e request spot))
-  on_spot None served by is = refuses_by NotFound refl
-  on_spot (Some (Resource n)) served by is = on_resource n (at n e.nodes) served by is refl
-  on_spot (Some (Fan n place)) served by is = on_fan n place (at n e.nodes) served by is refl
-  on_spot (Some (Poll channel)) served by is = elim (cases_Bool (has channel e.nodes)) [
+  on_spot : (spot : Option Spot) → has_originator e.home request ≡ true → spot_asked e request ≡ spot → Way e request (as_done (spot_effect e request spot))
+  on_spot None by is = refuses_by NotFound refl
+  on_spot (Some (Resource n)) by is = on_resource n (at n e.nodes) by is refl
+  on_spot (Some (Fan n place)) by is = on_fan n place (at n e.nodes) by is refl
+  on_spot (Some (Poll channel)) by is = elim (cases_Bool (has channel e.nodes)) [
     | inl t ↦ rw t (on_poll channel request.op is refl)
     | inr f ↦ rw f (refuses_by NotFound refl)
   ]
@@ -173,23 +169,23 @@ module _ (e : EntityData) (request : RequestParts) where
   elsewhere None = refuses_by NotFound refl
   elsewhere (Some cse) = on_cse cse (comes_from_cse e.nodes (claimed_originator e.home request)) (is_some (first_url cse))
 
-  by_address : (a : Result Addr AddrFault) → does_serve request.op request ≡ true → has_originator e.home request ≡ true → address_of e.home request.to ≡ a → Way e request (address_effect e request a)
-  by_address (Ok (Local segments)) served by is = on_spot (spot_of segments e.nodes) served by (ap (λ (a : Result Addr AddrFault). named_here a e.nodes) is)
-  by_address (Ok (Foreign text)) served by is = elsewhere (cse_named text e.nodes)
-  by_address (Ok OtherProvider) served by is = refuses_by NotFound refl
-  by_address (Err fault) served by is = refuses_by BadRequest refl
+  by_address : (a : Result Addr AddrFault) → has_originator e.home request ≡ true → address_of e.home request.to ≡ a → Way e request (address_effect e request a)
+  by_address (Ok (Local segments)) by is = on_spot (spot_of segments e.nodes) by (ap (λ (a : Result Addr AddrFault). named_here a e.nodes) is)
+  by_address (Ok (Foreign text)) by is = elsewhere (cse_named text e.nodes)
+  by_address (Ok OtherProvider) by is = refuses_by NotFound refl
+  by_address (Err fault) by is = refuses_by BadRequest refl
 
   abbrev address_is : Result Addr AddrFault
   address_is = address_of e.home request.to
 
   -- where no place refuses it, it goes by its address
-  pub heard : is_served request ≡ true → has_form request ≡ true → has_originator e.home request ≡ true → has_address e.home request ≡ true → is_in_time e request ≡ true → is_blocking request ≡ true → effect_of e request ≡ address_effect e request address_is
-  heard s k o a t b = rw (s, k, o, a, t, b) refl
+  pub heard : has_form request ≡ true → has_originator e.home request ≡ true → has_address e.home request ≡ true → is_in_time e request ≡ true → is_blocking request ≡ true → effect_of e request ≡ address_effect e request address_is
+  heard k o a t b = rw (k, o, a, t, b) refl
 
   pub way_of : Way e request (effect_of e request)
   way_of = elim (judged e request) [
     | turned_down fault other is ↦ refuses (fault, other, refused_effect e request fault is)
-    | is_heard none facts ↦ subst (Way e request) (sym (heard_effect e request none)) (by_address address_is facts.served facts.originator refl)
+    | is_heard none facts ↦ subst (Way e request) (sym (heard_effect e request none)) (by_address address_is facts.originator refl)
   ]
 
 -- ---- reading

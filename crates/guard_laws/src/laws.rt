@@ -21,7 +21,9 @@ ghost use Rattle.guard_laws.specs.Legal.{StaysSound};
 /// waits for its channel, to whom the channel's rule gives RETRIEVE. A fan-out is gathered, by a
 /// right on its group, from what comes of one request to each of the group's members, one after
 /// another, and each of these is guarded so, in the entity that those before it left; also where
-/// memory runs out after some of them.
+/// memory runs out after some of them. Shown is what a reply says. What subscriptions are told, and
+/// what copies at other CSEs are given, isn't judged here: a right was needed to create the
+/// subscription, and to set the `at` and the `aa` of the resource.
 pub fn nothing_is_shown_or_changed_without_a_grant()
     ensures steps { StepsAreGuarded }
     ensures short { CutStepsAreGuarded }

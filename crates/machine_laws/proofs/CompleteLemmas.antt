@@ -1,6 +1,6 @@
 -- What nothing speaks against is served.
 use Rattle.machine_laws.proofs.Words.{◌≡◌, ◌⊎◌, ℕ, List, [], ◌∷◌, ◌++◌, Bool, true, false, find, Option, Some, None, is_some, Result, Ok, Err, inl, inr, refl, sym, ap, subst, ◌∙◌, option_and_then, option_map_or}
-use Rattle.machine_laws.proofs.Terms.{Rsc, NotFound, Op, Create, Retrieve, Update, Delete, Notify, does_take, Ty, RequestParts, ResourceData, at, cse_of, has, address_of, named_here, spot_of, Addr, Local, Foreign, OtherProvider, AddrFault, Spot, Resource, Fan, Poll, grants, EntityData, swept, Effect, first_fault, on_found, reading_bit, refused, refusal, creation_by, creation_places, fault_on, fault_new, new_places, child_ty, named_by, is_discovery, retrieved_of, effect_by, told_effect_by, Ask, Outcome, Done, Forward, Item, Ticked, Starved, first_url, is_url, leading_cse_id, EventEffect, address_effect, addressed, as_done, does_serve, effect_of, onward_effect, point_of, poll_effect, resource_at, route_effect, spot_effect, operation_effect, reading_reply, relay_effect, resource_effect, forwarded, routed, routed_to, polled, Step, fan_effect, may_fan, rest_of, claimed_originator}
+use Rattle.machine_laws.proofs.Terms.{Rsc, NotFound, Op, Create, Retrieve, Update, Delete, Notify, does_take, Ty, RequestParts, ResourceData, at, cse_of, has, address_of, named_here, spot_of, Addr, Local, Foreign, OtherProvider, AddrFault, Spot, Resource, Fan, Poll, grants, EntityData, swept, Effect, first_fault, on_found, reading_bit, refused, refusal, creation_by, creation_places, fault_on, fault_new, new_places, child_ty, named_by, is_discovery, retrieved_of, effect_by, told_effect_by, Ask, Outcome, Done, Forward, Item, Ticked, Starved, first_url, is_url, leading_cse_id, EventEffect, address_effect, addressed, as_done, effect_of, onward_effect, point_of, poll_effect, resource_at, route_effect, spot_effect, operation_effect, reading_reply, relay_effect, resource_effect, forwarded, routed, routed_to, polled, Step, fan_effect, may_fan, rest_of, claimed_originator}
 use Rattle.machine_laws.proofs.Facts.{and_parts, cases_Bool, cond-true, cond-false, false≢true, All-head, All-tail, none-some, at_number, members_parts, poll_there, reading_found, reading_shown}
 use Rattle.std.proofs.Common.{All}
 use Rattle.request_rules.specs.Groups.{membership_edited, membership_new}
@@ -90,12 +90,12 @@ module _ (e : EntityData) (request : RequestParts) (r : ResourceData) where
         ∙ rw (d, right, meets) refl)
   ]
 
-  succeeds : (op : Op) → does_serve op request ≡ true → at r.number e.nodes ≡ Some r → MayBeDone op e request r → IsSuccess op e request r (Done (operation_effect op e request r).reply)
-  succeeds Create served there may = created (child_ty request) refl may
-  succeeds Retrieve served there may = read there may
-  succeeds Update served there may = updated may
-  succeeds Delete served there may = deleted may
-  succeeds Notify served there may = notified may
+  succeeds : (op : Op) → at r.number e.nodes ≡ Some r → MayBeDone op e request r → IsSuccess op e request r (Done (operation_effect op e request r).reply)
+  succeeds Create there may = created (child_ty request) refl may
+  succeeds Retrieve there may = read there may
+  succeeds Update there may = updated may
+  succeeds Delete there may = deleted may
+  succeeds Notify there may = notified may
 
 -- ---- a step
 
@@ -110,7 +110,7 @@ there_where_named nodes target (Some (Poll channel)) found = absurd (none-some t
 module _ (reading : ℕ) (request : RequestParts) (before after : EntityData) (P : Outcome → Type 0) (hears : MayBeHeard (swept reading before) request) (holds : P (address_effect (swept reading before) request (address_of (swept reading before).home request.to)).outcome) where
   by_outcome : (outcome : Outcome) → outcome ≡ (effect_of (swept reading before) request).outcome → P outcome
   by_outcome outcome is =
-      let heard_so = heard (swept reading before) request hears.served hears.form hears.originator hears.address hears.time hears.blocking in
+      let heard_so = heard (swept reading before) request hears.form hears.originator hears.address hears.time hears.blocking in
       subst P (sym (is ∙ ap (λ (x : EventEffect). x.outcome) heard_so)) holds
 
   heard_step : (outcome : Outcome) → Step reading (Ask request) before outcome after → P outcome ⊎ IsStarved outcome
@@ -126,7 +126,7 @@ served_steps reading request before after outcome target step hears named may =
     let there = there_where_named e.nodes target (spot_asked e request) named in
     let is = to_named e request target (address_of e.home request.to) refl named in
     heard_step reading request before after (IsSuccess request.op e request target) hears
-    (subst (λ (x : EventEffect). IsSuccess request.op e request target x.outcome) (sym is) (succeeds e request target request.op hears.served there may))
+    (subst (λ (x : EventEffect). IsSuccess request.op e request target x.outcome) (sym is) (succeeds e request target request.op there may))
     outcome step
 
 -- ---- at what isn't a resource

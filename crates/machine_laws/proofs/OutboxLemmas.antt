@@ -2,6 +2,7 @@
 use Rattle.machine_laws.proofs.Words.{◌≡◌, ℕ, ◌≤◌, List, [], ◌∷◌, ◌++◌, append_assoc, map, find, take, Bool, true, false, cond, not, ◌&&◌, Option, Some, None, is_some, option_map, Result, Ok, Err, inl, inr, refl, sym, ap, subst, ◌∙◌, arith, list_all, option_and_then, option_map_or}
 use Rattle.machine_laws.proofs.Terms.{Rsc, BadChild, BadRequest, NoPrivilege, NotFound, RequestTimeout, Op, Create, Retrieve, Update, Delete, Notify, Ty, NoteParts, RequestParts, HomeData, ResourceData, address_of, named_here, spot_of, Addr, Local, Foreign, OtherProvider, AddrFault, Spot, Resource, Fan, Poll, grants, retrieve_bit, at, has, is_to_send, still_waits, waits_for, EntityData, event_moment, items_from, still_waiting, swept, first_fault, on_found, refused, unless, creation_by, fault_on, child_ty, notify_effect, relayed, changes_by, create_effect, effect_by, gone_numbers, told_effect_by, told_effect_on, Event, Ask, Take, Tick, Outcome, Done, Forward, Given, Ticked, Starved, address_effect, addressed, as_done, effect_of, first_places, has_answer, onward_effect, point_of, poll_effect, resource_at, route_effect, spot_effect, after_members, fan_effect, fan_places, fanned, fanned_requests, member_effect, member_effect_at, member_effect_by, member_requests, rest_of, cse_named, first_url, comes_from_cse, routed_to, found_effect, operation_effect, History, HistoryLeaves, claimed_originator, has_right, IsCutShort, IsUnswept, Step, heard_members}
 use Rattle.machine_laws.proofs.Facts.{and_from, and_parts, cases_Bool, or_cases, or_left, or_right, nat_tests, append-nil}
+use Rattle.entity_model.proofs.TellingLemmas.{no_requests}
 use Rattle.notify_outbox.specs.Outbox.{without_first}
 use Rattle.notify_outbox.specs.declared.item.Item.{Item}
 use Rattle.retarget.specs.declared.routing.Route.TheVariants as to
@@ -160,7 +161,7 @@ module _ (e : EntityData) (request : RequestParts) where
     read_none = by (fault_on Retrieve e o request r)
       where
         by : (f : Option Rsc) → option_map_or (λ (fault : Rsc). []) f (done_notes Retrieve e request r.number e) ≡ []
-        by None = refl
+        by None = no_requests e.home e.nodes
         by (Some fault) = refl
 
     changed_items : (op : Op) → (change_effect op e request r).after.items ≡ e.items ++ items_from e.numbered e.last (change_notes op e request r)

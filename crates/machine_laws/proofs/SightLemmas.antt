@@ -1,14 +1,14 @@
 -- An originator is answered the same on what it sees, and sees the same of what is left.
-use Rattle.machine_laws.proofs.Words.{◌≡◌, ◌⊎◌, ◌||◌, ℕ, List, [], ◌∷◌, map, Bool, true, false, cond, Option, Some, None, option_map, inl, inr, refl, sym, ap, ap₂, subst, ◌∙◌, option_map_or, list_any}
-use Rattle.machine_laws.proofs.Terms.{op_row, Rsc, BadRequest, NoPrivilege, NotAllowed, Op, Create, Retrieve, Update, Delete, Notify, RequestParts, HomeData, ResourceData, has_number, deleted, at, is_due, is_well_formed, live, numbers_of, overdue_numbers, without, address_of, fanned, member_effect, sent_to, seen, seen_list, notes_of_all, DraftParts, EntityData, event_moment, expired, expired_told, swept, expiry_changes, refused, IsSoundEntity, fault_on, is_for, discovered, retrieved, only_in, delete_effect, notify_effect, notify_on, told_effect_by, told_effect_on, EventEffect, as_done, first_places, does_serve, is_served, effect_of, operation_effect, found_effect, reading_reply, resource_effect, is_discovery, claimed_originator, first_fault}
-use Rattle.machine_laws.proofs.Facts.{both_ways, cases_Bool, false≢true, not-true, or_cases, or_left, tree_from_well_formed, KeepsStanding, is_well_formed-map, is_well_formed-without, ae_id-seen, at-seen, cse_id-seen, grants-seen, AreSeenAlike, by_fault, same_home, same_last, same_seen, spent_alike, through_sight, claimed_valid, sound_swept, OnlySubsCount, expiry_seen, for_whom, numbers_seen, numbers_told_all, only_seen, removal_seen, sight_counts, sound_counts, spent_counts, spent_well, whom_all, without_counts}
+use Rattle.machine_laws.proofs.Words.{◌≡◌, ℕ, List, [], ◌∷◌, map, Bool, true, false, cond, Option, Some, None, option_map, inl, inr, refl, sym, ap, ap₂, subst, ◌∙◌, option_map_or, list_any}
+use Rattle.machine_laws.proofs.Terms.{op_row, Rsc, NoPrivilege, NotAllowed, Op, Create, Retrieve, Update, Delete, Notify, RequestParts, HomeData, ResourceData, has_number, deleted, at, is_due, is_well_formed, live, numbers_of, overdue_numbers, without, address_of, fanned, member_effect, sent_to, seen, seen_list, notes_of_all, DraftParts, EntityData, event_moment, expired, expired_told, swept, expiry_changes, refused, IsSoundEntity, fault_on, is_for, discovered, retrieved, only_in, delete_effect, notify_effect, notify_on, told_effect_by, told_effect_on, EventEffect, as_done, first_places, effect_of, operation_effect, found_effect, reading_reply, resource_effect, is_discovery, claimed_originator, first_fault}
+use Rattle.machine_laws.proofs.Facts.{cases_Bool, false≢true, tree_from_well_formed, KeepsStanding, is_well_formed-map, is_well_formed-without, ae_id-seen, at-seen, cse_id-seen, grants-seen, AreSeenAlike, by_fault, same_home, same_last, same_seen, spent_alike, through_sight, claimed_valid, sound_swept, OnlySubsCount, expiry_seen, for_whom, numbers_seen, numbers_told_all, only_seen, removal_seen, sight_counts, sound_counts, spent_counts, spent_well, whom_all, without_counts}
 use Rattle.std.specs.Prelude.{not, ◌&&◌}
 use Rattle.tree_model.proofs.LiveLemmas.{without_none}
 use Rattle.policy_laws.proofs.TwiceLemmas.{left-seen, live-same, seen_list-twice}
 use Rattle.sight_laws.proofs.AnswerLemmas.{retrieved-seen}
 use Rattle.sight_laws.proofs.SightLemmas.{discovered-seen}
 use Rattle.group_fanout.specs.Operations.{change_effect, relay_effect}
-use Rattle.guard_laws.proofs.MemberLemmas.{IsSoundAt, MaySend, member_kept, of_member, served_sent}
+use Rattle.guard_laws.proofs.MemberLemmas.{IsSoundAt, MaySend, member_kept, of_member}
 use Rattle.guard_laws.proofs.RelayLemmas.{relay_nodes}
 use Rattle.sight_laws.specs.Laws.{changes_rules}
 use Rattle.machine_laws.proofs.AddressAlikeLemmas.{AreAnsweredSo, asked_same, carried_by_sight, effect_so}
@@ -35,14 +35,6 @@ module _ (home : HomeData) (nodes : List ResourceData) (o : List ℕ) where
   well_seen well = is_well_formed-map (seen home nodes o) seen_stands nodes ∙ well
 
 -- ---- what is seen of what comes of a request
-
--- what isn't served is refused alike
-unserved_alike : (e other : EntityData) (o : List ℕ) (request : RequestParts) (poll : Bool) → sight o e ≡ sight o other → is_served request ≡ false → AreAnsweredSo (SameSight o) poll (effect_of e request) (effect_of other request)
-unserved_alike e other o request poll same f =
-    let one : effect_of e request ≡ as_done (refused e request BadRequest) = rw f refl in
-    let two : effect_of other request ≡ as_done (refused other request BadRequest) = rw f refl in
-    subst (λ (x : EventEffect). AreAnsweredSo (SameSight o) poll x (effect_of other request)) (sym one)
-    (subst (AreAnsweredSo (SameSight o) poll (as_done (refused e request BadRequest))) (sym two) (record { outcome = λ other_one. refl; after = same }))
 
 none_any : (nodes : List ResourceData) → list_any (λ (r : ResourceData). false) nodes ≡ false
 none_any [] = refl
@@ -174,14 +166,6 @@ pub record IsShaped (nodes : List ResourceData) : Type 0 where
   pub well : is_well_formed nodes ≡ true
   pub counts : OnlySubsCount nodes
 
--- what is covered is served
-covered_served : (op : Op) (request : RequestParts) → asks_sight_alone op ≡ true → does_serve op request ≡ true
-covered_served Create request covered = absurd (false≢true covered)
-covered_served Retrieve request covered = refl
-covered_served Update request covered = absurd (false≢true covered)
-covered_served Delete request covered = refl
-covered_served Notify request covered = refl
-
 module _ (e : EntityData) (request : RequestParts) (r : ResourceData) (shaped : IsShaped e.nodes) where
   delete_shaped : IsShaped (change_effect Delete e request r).after.nodes
   unfolding change_effect
@@ -214,7 +198,7 @@ module _ (o : List ℕ) (request : RequestParts) (covered : asks_sight_alone req
       record {
         well = left.well;
         counts = left.counts;
-        by = ap (λ (h : HomeData). claimed_originator h request) (member_kept e one (served_sent request.op request address ∙ covered_served request.op request covered)).home ∙ is.by;
+        by = ap (λ (h : HomeData). claimed_originator h request) (member_kept e one).home ∙ is.by;
       }
 
   -- an operation on a resource that is covered gives what is seen alike
@@ -303,22 +287,13 @@ module _ (o : List ℕ) (one other : EntityData) (well : is_well_formed one.node
       ∙ ap (λ (n : ℕ). sight o (expired_told (event_moment n reading) other)) (same_last o one other same)
 
 -- what comes of a request to two entities of which the originator sees the same, it sees alike
-alike : (one other : EntityData) (o : List ℕ) (request : RequestParts) → is_well_formed one.nodes ≡ true → is_well_formed other.nodes ≡ true → OnlySubsCount one.nodes → OnlySubsCount other.nodes → sight o one ≡ sight o other → IsRequestBy one.home o request → (asks_sight_alone request.op || not (is_served request)) ≡ true → AreOrdered one.nodes → AreOrdered other.nodes → AreAnsweredSo (SameSight o) (is_poll one request) (effect_of one request) (effect_of other request)
-alike one other o request well wells counts count same by alone order orders = elim (cases_Bool (is_served request)) [
-  | inr f ↦ unserved_alike one other o request (is_poll one request) same f
-  | inl t ↦ elim (or_cases (asks_sight_alone request.op) (not (is_served request)) alone) [
-    | inl covered ↦ elim by [
-      | inl own ↦
-          let home : one.home ≡ other.home = same_home o one other same in
-          covered_alike o request covered one other
-          (record { well = well; counts = counts; by = own })
-          (record { well = wells; counts = count; by = ap (λ (h : HomeData). claimed_originator h request) (sym home) ∙ own })
-          same order orders
-      | inr other_one ↦ absurd (both_ways _ other_one t)
-    ]
-    | inr unserved ↦ absurd (both_ways _ (not-true _ unserved) t)
-  ]
-]
+alike : (one other : EntityData) (o : List ℕ) (request : RequestParts) → is_well_formed one.nodes ≡ true → is_well_formed other.nodes ≡ true → OnlySubsCount one.nodes → OnlySubsCount other.nodes → sight o one ≡ sight o other → IsRequestBy one.home o request → asks_sight_alone request.op ≡ true → AreOrdered one.nodes → AreOrdered other.nodes → AreAnsweredSo (SameSight o) (is_poll one request) (effect_of one request) (effect_of other request)
+alike one other o request well wells counts count same by covered order orders =
+    let home : one.home ≡ other.home = same_home o one other same in
+    covered_alike o request covered one other
+    (record { well = well; counts = counts; by = by })
+    (record { well = wells; counts = count; by = ap (λ (h : HomeData). claimed_originator h request) (sym home) ∙ by })
+    same order orders
 
 -- What comes of a request to two sound entities of which the originator sees the same: it sees alike
 -- what is left; or it names policies or rules, and what is left has one shape for it.
@@ -336,10 +311,7 @@ heard_alike one other o request sound sounds same by =
         heard_so (subst (λ (x : EventEffect). AreAnsweredSo (SameSight o) (is_poll one request) x (effect_of other request)) (sym (refused_effect one request fault is))
         (subst (AreAnsweredSo (SameSight o) (is_poll one request) (as_done (refused one request fault))) (sym (refused_effect other request fault too)) (record { outcome = λ other_one. refl; after = same })))
     by_place_first None is =
-        let heard = heard_facts one request is in
-        by_way heard.served
-        (record { served = heard.served; originator = claimed_valid one.home request heard.originator })
-        (way_of_sight request.op)
+        by_way (record { originator = claimed_valid one.home request (heard_facts one request is).originator }) (way_of_sight request.op)
       where
         here : IsSoundAt one.home one
         here = record { sound = sound; home_is = refl }
@@ -347,21 +319,16 @@ heard_alike one other o request sound sounds same by =
         there : IsSoundAt one.home other
         there = record { sound = sounds; home_is = sym (same_home o one other same) }
 
-        by_way : is_served request ≡ true → MaySend one.home request → WayOfSight request.op → IsHeardAlike o request (is_poll one request) (effect_of one request) (effect_of other request)
-        by_way served may (asks_alone alone) =
-            heard_so (alike one other o request sound.tree sounds.tree (sound_counts one sound) (sound_counts other sounds) same by (or_left _ _ alone) sound.order sounds.order)
-        by_way served may (creates op) = elim by [
-          | inl own ↦ heard_so (create_so one.home o request own may op one other here there same sound.order sounds.order)
-          | inr unserved ↦ absurd (both_ways _ unserved served)
-        ]
-        by_way served may (updates op) = elim by [
-          | inl own ↦ elim (cases_Bool (changes_rules request)) [
-            | inr calm ↦ heard_so (update_so one.home o request own may op calm one other here there same sound.order sounds.order)
-            | inl rules ↦
-                let anew : is_calm request ≡ false = ap (λ (x : Op). not (does_update x && changes_rules request)) op ∙ ap (λ (b : Bool). not (true && b)) rules in
-                judges_anew anew (rules_so one.home o request own may op rules one other here there same sound.order sounds.order)
-          ]
-          | inr unserved ↦ absurd (both_ways _ unserved served)
+        by_way : MaySend one.home request → WayOfSight request.op → IsHeardAlike o request (is_poll one request) (effect_of one request) (effect_of other request)
+        by_way may (asks_alone alone) =
+            heard_so (alike one other o request sound.tree sounds.tree (sound_counts one sound) (sound_counts other sounds) same by alone sound.order sounds.order)
+        by_way may (creates op) =
+            heard_so (create_so one.home o request by may op one other here there same sound.order sounds.order)
+        by_way may (updates op) = elim (cases_Bool (changes_rules request)) [
+          | inr calm ↦ heard_so (update_so one.home o request by may op calm one other here there same sound.order sounds.order)
+          | inl rules ↦
+              let anew : is_calm request ≡ false = ap (λ (x : Op). not (does_update x && changes_rules request)) op ∙ ap (λ (b : Bool). not (true && b)) rules in
+              judges_anew anew (rules_so one.home o request by may op rules one other here there same sound.order sounds.order)
         ]
 
 module _ (one other : EntityData) (o : List ℕ) (reading : ℕ) (sound : IsSoundEntity one) (sounds : IsSoundEntity other) (same : sight o one ≡ sight o other) where
@@ -375,7 +342,7 @@ module _ (one other : EntityData) (o : List ℕ) (reading : ℕ) (sound : IsSoun
       heard_alike (swept reading one) (swept reading other) o request (sound_swept reading one sound) (sound_swept reading other sounds) passed-alike by
 
 -- on what it sees of an entity it is answered as by the entity
-pub outcome-seen : (e : EntityData) (o : List ℕ) (reading : ℕ) (request : RequestParts) → IsSoundEntity e → IsRequestBy e.home o request → (asks_sight_alone request.op || not (is_served request)) ≡ true → is_poll (swept reading e) request ≡ false → (effect_of (swept reading (sight o e)) request).outcome ≡ (effect_of (swept reading e) request).outcome
+pub outcome-seen : (e : EntityData) (o : List ℕ) (reading : ℕ) (request : RequestParts) → IsSoundEntity e → IsRequestBy e.home o request → asks_sight_alone request.op ≡ true → is_poll (swept reading e) request ≡ false → (effect_of (swept reading (sight o e)) request).outcome ≡ (effect_of (swept reading e) request).outcome
 outcome-seen e o reading request sound by alone unpolled =
     let counts = sound_counts e sound in
     let seen_well = well_seen e.home e.nodes o sound.tree in

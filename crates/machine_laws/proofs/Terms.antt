@@ -11,7 +11,7 @@ pub use Rattle.create_delete.specs.Changes.{changes_by, only_in}
 pub use Rattle.create_delete.specs.Changing.{create_effect, delete_effect, effect_at, effect_by}
 pub use Rattle.create_delete.specs.Relaying.{notify_effect, notify_on, relayed}
 pub use Rattle.create_delete.specs.Telling.{gone_numbers, told_effect_at, told_effect_by, told_effect_on}
-pub use Rattle.cse_machine.specs.Answer.{ComesOf, EventEffect, address_effect, addressed, as_done, does_serve, effect_of, first_places, has_answer, is_served, onward_effect, point_of, poll_effect, resource_at, route_effect, spot_effect}
+pub use Rattle.cse_machine.specs.Answer.{ComesOf, EventEffect, address_effect, addressed, as_done, effect_of, first_places, has_answer, onward_effect, point_of, poll_effect, resource_at, route_effect, spot_effect}
 pub use Rattle.cse_machine.specs.History.{History, HistoryLeaves, IsDone}
 pub use Rattle.cse_machine.specs.Step.{IsCutShort, IsUnswept, Step, heard_members}
 pub use Rattle.cse_machine.specs.declared.event.Event.{Event}

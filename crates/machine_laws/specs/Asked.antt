@@ -28,8 +28,8 @@ pub record IsServedStep (reading : ℕ) (request : RequestParts) (before after :
   pub named : addressed (swept reading before) request.to ≡ Some target
 
 -- An operation on the resource of a number made the second entity of the first, and its changes are
--- then told: their notes are appended, and subscriptions that count are lowered, or go (TS-0001,
--- 9.6.8).
+-- then told: their notes are appended, and behind them the requests about copies, and subscriptions
+-- that count are lowered, or go (TS-0001, 9.6.8 and 9.6.26).
 abbrev pub told_of : Op → RequestParts → ℕ → EntityData → EntityData → EntityData
 told_of op request n before done =
     telling before.nodes (gone_numbers before done) (changes_by op request n before done) done

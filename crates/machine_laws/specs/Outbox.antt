@@ -22,7 +22,7 @@ use Rattle.notify_outbox.specs.declared.item.Item.{Item}
 use Rattle.subscription_match.specs.Items.{items_of}
 use Rattle.subscription_match.specs.Notices.{notes_of_all}
 use Rattle.subscription_match.specs.Spending.{kept}
-use Rattle.entity_model.specs.Entity.{EntityData, event_moment, items_from, swept}
+use Rattle.entity_model.specs.Entity.{EntityData, copy_requests, event_moment, items_from, swept}
 use Rattle.entity_model.specs.Expiry.{expiry_changes}
 use Rattle.entity_model.specs.Places.{first_fault}
 use Rattle.request_rules.specs.Order.{fault_on}
@@ -43,12 +43,14 @@ use Rattle.group_fanout.specs.Fan.{fanned_at, member_effect, rest_of}
 
 -- ---- what is appended
 
--- what subscriptions are told of changes, where these were the resources before them and `going`
--- are those that the same removal takes: one note for each change and each subscription that looks
--- for it, as far as it has notifications left, and one for each deletion notice
+-- what changes append, where these were the resources before them and `going` are those that the
+-- same removal takes: what subscriptions are told, one note for each change and each subscription
+-- that looks for it, as far as it has notifications left, and one for each deletion notice; and
+-- behind it the requests about the copies of what is announced
 abbrev pub notes_told : HomeData → List ResourceData → List ℕ → List ChangeData → List NoteParts
 notes_told home before going changes =
     items_of home before (kept before (notes_of_all home before going changes))
+    ++ copy_requests home before changes
 
 -- the notes of the expiry that an event finds
 abbrev pub expiry_notes : ℕ → EntityData → List NoteParts

@@ -1,5 +1,5 @@
 -- What an originator sees of an entity, and that it is answered by no more than that.
-use Rattle.std.specs.Prelude.{◌≡◌, ◌⊎◌, ℕ, List, [], ◌∷◌, Option, Some, None, Bool, true, false, ◌&&◌, ◌||◌, not, IsTrue}
+use Rattle.std.specs.Prelude.{◌≡◌, ℕ, List, [], ◌∷◌, Option, Some, None, Bool, true, false, ◌&&◌, not, IsTrue}
 use Rattle.std.specs.Prelude.{Result, Ok, Err, ⊤}
 use Rattle.std.specs.List.{All, list_all, list_any}
 use Rattle.std.specs.Str.{bytes_eq}
@@ -23,7 +23,7 @@ use Rattle.entity_model.specs.Sound.{IsSoundEntity}
 use Rattle.cse_machine.specs.declared.event.Event.{Event}
 use Rattle.cse_machine.specs.declared.event.Event.TheVariants.{Ask, Take, Tick}
 use Rattle.cse_machine.specs.declared.event.Outcome.{Outcome}
-use Rattle.cse_machine.specs.Answer.{effect_of, is_served}
+use Rattle.cse_machine.specs.Answer.{effect_of}
 use Rattle.cse_machine.specs.History.{History, HistoryLeaves, IsDone}
 use Rattle.group_fanout.specs.Rights.{claimed_originator}
 use Rattle.guard_laws.specs.Guard.{spot_asked}
@@ -59,8 +59,8 @@ does_update Update = true
 does_update Delete = false
 does_update Notify = false
 
--- The request is no Update that names policies, or a policy's rules. By such a one others are judged
--- anew.
+-- The request is no Update that names policies, or a policy's rules. By such a one others are
+-- judged anew.
 abbrev pub is_calm : RequestParts → Bool
 is_calm request = not (does_update request.op && changes_rules request)
 
@@ -91,8 +91,8 @@ is_poll_point (Some (Poll channel)) = true
 abbrev pub polls_at : Op → Option Spot → Bool
 polls_at op spot = does_poll op && is_poll_point spot
 
--- The request is a poll: a Retrieve whose address leads to a poll point (TS-0001, 9.6.22). What waits
--- for a channel isn't seen.
+-- The request is a poll: a Retrieve whose address leads to a poll point (TS-0001, 9.6.22). What
+-- waits for a channel isn't seen.
 abbrev pub is_poll : EntityData → RequestParts → Bool
 is_poll e request = polls_at request.op (spot_asked e request)
 
@@ -100,17 +100,16 @@ is_poll e request = polls_at request.op (spot_asked e request)
 abbrev pub is_polling : HomeData → RequestParts → Bool
 is_polling home request = does_poll request.op && names_poll (address_of home request.to)
 
--- the request is judged as this originator's; or it isn't served, whoever asks
+-- the request is judged as this originator's
 abbrev pub IsRequestBy : HomeData → List ℕ → RequestParts → Type 0
-IsRequestBy home originator request =
-    (claimed_originator home request ≡ originator) ⊎ (is_served request ≡ false)
+IsRequestBy home originator request = claimed_originator home request ≡ originator
 
 -- On what it sees, an originator is answered the same, unless it polls.
 abbrev pub IsAnsweredBySight : Type 0
 IsAnsweredBySight =
     (e : EntityData) (originator : List ℕ) (reading : ℕ) (request : RequestParts)
     → IsSoundEntity e → IsRequestBy e.home originator request
-    → IsTrue (asks_sight_alone request.op || not (is_served request))
+    → IsTrue (asks_sight_alone request.op)
     → is_poll (swept reading e) request ≡ false
     → (effect_of (swept reading (sight originator e)) request).outcome
     ≡ (effect_of (swept reading e) request).outcome
@@ -128,8 +127,8 @@ EqualSightsAnswerAlike =
     → Step reading (Ask request) right twin other → IsDone outcome → IsDone twin
     → outcome ≡ twin
 
--- And the originator sees the same of what they leave, also where it polls, unless the request names
--- policies or rules.
+-- And the originator sees the same of what they leave, also where it polls, unless the request
+-- names policies or rules.
 abbrev pub EqualSightsStayEqual : Type 0
 EqualSightsStayEqual =
     (left right after other : EntityData) (originator : List ℕ)
@@ -213,9 +212,9 @@ HaveAnswersOf e (h ∷ history) after leaves (t ∷ twin) =
 
 -- Two entities of which the originator sees the same answer its requests, one after another at the
 -- same readings, alike, where there is memory for all of them, up to and with the first that names
--- policies or rules. They have one shape for it afterwards; and it sees the same of what they leave,
--- where none names them. Time may pass between its requests, but no item is taken: what waits isn't
--- seen, and so a poll alone may be answered otherwise.
+-- policies or rules. They have one shape for it afterwards; and it sees the same of what they
+-- leave, where none names them. Time may pass between its requests, but no item is taken: what
+-- waits isn't seen, and so a poll alone may be answered otherwise.
 abbrev pub EqualSightsStayAlike : Type 0
 EqualSightsStayAlike =
     (left right after other : EntityData) (originator : List ℕ) (history twin : History)

@@ -19,12 +19,13 @@ pub fn an_originator_is_answered_by_what_it_sees()
 {}
 
 /// Two sound entities of which an originator sees the same answer the same request at the same
-/// reading alike, by a reply or by sending it on to another CSE, unless it is a poll: at a step, and
-/// so all along a history in which it alone asks and time passes, up to and with the first request
-/// that names policies or rules. So they do where the request is fanned out. Afterwards it sees the
-/// same of both; behind a request that names policies or rules they have one shape for it. Who is
-/// told of what it does, how often, and which subscriptions go then, is the same for both; what they
-/// are told needn't be.
+/// reading alike, by a reply or by sending it on to another CSE, unless it is a poll: at a step,
+/// and so all along a history in which it alone asks and time passes, up to and with the first
+/// request that names policies or rules. So they do where the request is fanned out. Afterwards it
+/// sees the same of both; behind a request that names policies or rules they have one shape for it.
+/// Which subscriptions are told of what it does, how often, and which go then, is the same for both.
+/// What they are told needn't be; nor need what is sent about copies, since `at` and `aa` are seen
+/// with RETRIEVE alone.
 pub fn equal_sights_are_answered_alike()
     ensures steps { EqualSightsAnswerAlike }
     ensures seen { EqualSightsStayEqual }
@@ -61,7 +62,7 @@ pub fn what_may_be_served_is_served()
 /// are new. A Create that is served adds exactly one resource under its target, an Update changes
 /// its target alone, and both remove at most instances of it; a Delete takes its target and what
 /// stands below that, and changes nothing else. What is changed so is then told, by which
-/// subscriptions that count are lowered, or go.
+/// subscriptions that count are lowered, or go; and it is sent to where copies stand.
 pub fn a_step_changes_what_is_asked_alone()
     ensures entity { StepsKeepTheEntity }
     ensures created { CreatesAddOne }
@@ -74,9 +75,10 @@ pub fn a_step_changes_what_is_asked_alone()
 /// appended, in order, less those that were given away and those that were dropped. Each step
 /// appends the items of its expiry, and then those of its request: one for each change and each
 /// subscription that looks for it, as long as it has notifications left, one for each deletion
-/// notice, and one for a Notify that is handed on; of a fan-out those of each of its members, one
-/// after another, as far as memory lasts. A poll is given the first item that waits for its
-/// channel. Only what waited the keeping time is dropped.
+/// notice, and behind these one for each request about a copy; or one for a Notify that is handed
+/// on; of a fan-out those of each of its members, one after another, as far as memory lasts. A poll
+/// is given the first item that waits for its channel. Only what waited the keeping time is
+/// dropped.
 pub fn the_outbox_holds_what_was_appended()
     ensures { OutboxesAreAccounted }
 {}

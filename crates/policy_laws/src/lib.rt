@@ -12,9 +12,9 @@
 //! it is due, `acpi`, `macp` and whether it owns it; the `aei` of an AE; the `csi` of a remote CSE
 //! and the first http URL of its `poa`; the `enc` and the `exc` of a subscription; and of a policy
 //! the bits that it has by `pv` and by `pvs`. That is the shape of the list (`specs/Shape` of
-//! equal_sights). Besides, it sees what its rights show, and nothing else. The shape alone gives the
-//! same rights, and two lists of one shape keep one shape under a removal, where subscriptions are
-//! counted anew, and under changes of a resource by which others are judged anew.
+//! equal_sights). Besides, it sees what its rights show, and nothing else. The shape alone gives
+//! the same rights, and two lists of one shape keep one shape under a removal, where subscriptions
+//! are counted anew, and under changes of a resource by which others are judged anew.
 //!
 //! ```text
 //! removal_grants_nothing(); // each call has its law as its contract

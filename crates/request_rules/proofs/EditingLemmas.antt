@@ -1,5 +1,5 @@
 -- Contents that name attributes, and the order in which an Update is refused by them.
-use Rattle.std.proofs.Common.{◌≡◌, ℕ, List, [], ◌∷◌, ◌++◌, Bool, true, false, not, ◌&&◌, Option, Some, None, unwrap_or, if◌then◌else◌, refl, sym, ap, ◌∙◌}
+use Rattle.std.proofs.Common.{◌≡◌, ℕ, List, [], ◌∷◌, ◌++◌, Bool, true, false, Option, Some, None, unwrap_or, if◌then◌else◌, refl, sym, ap, ◌∙◌}
 use Rattle.std.proofs.lemmas.Bool.{and_parts, both_ways}
 use Rattle.std.specs.Option.{option_map_or, option_or}
 use Rattle.m2m_names.specs.declared.codes.Rsc.TheVariants.{BadRequest}
@@ -15,7 +15,7 @@ use Rattle.attribute_rules.specs.declared.table.Writing.TheVariants.{Update as U
 use Rattle.entity_model.specs.Entity.{EntityData}
 use Rattle.entity_model.specs.Places.{first_fault, unless}
 use Rattle.request_rules.specs.Order.{content_places, creation_places, edit_places, fault_edit, fault_named, named_places}
-use Rattle.request_rules.specs.Requests.{admits, are_in_order, content_for, is_content_for, named_by, names_copy}
+use Rattle.request_rules.specs.Requests.{admits, are_in_order, content_for, is_content_for, named_by}
 use Rattle.request_rules.proofs.InOrderLemmas.{order_sorted}
 use Rattle.request_rules.proofs.OrderLemmas.{first_fault-append}
 
@@ -36,12 +36,11 @@ names_some writing request ty is none = both_ways (is_content_for writing reques
 -- which stand in order, and are admitted
 pub sorted_for : (writing : Writing) (request : RequestParts) (ty : Ty) (es : List Entry) → is_content_for writing request ty ≡ true → content_for request ty ≡ Some es → AreSorted es
 sorted_for writing request ty es is names =
-    let both = and_parts (are_in_order es && not (names_copy es)) (are_admitted writing ty es) (sym (content_admits writing request ty es names) ∙ is) in
-    order_sorted es (and_parts (are_in_order es) (not (names_copy es)) both.0).0
+    order_sorted es (and_parts (are_in_order es) (are_admitted writing ty es) (sym (content_admits writing request ty es names) ∙ is)).0
 
 pub admitted_for : (writing : Writing) (request : RequestParts) (ty : Ty) (es : List Entry) → is_content_for writing request ty ≡ true → content_for request ty ≡ Some es → are_admitted writing ty es ≡ true
 admitted_for writing request ty es is names =
-    (and_parts (are_in_order es && not (names_copy es)) (are_admitted writing ty es) (sym (content_admits writing request ty es names) ∙ is)).1
+    (and_parts (are_in_order es) (are_admitted writing ty es) (sym (content_admits writing request ty es names) ∙ is)).1
 
 -- ---- an Update
 

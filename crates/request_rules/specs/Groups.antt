@@ -1,7 +1,7 @@
 -- The members that a group is to have (TS-0001, 9.6.13): which texts may name one, how many there
 -- may be, of which type they are, and what the group keeps of them.
 use Rattle.std.specs.Prelude.{ℕ, pos, ◌==◌, nat_le, min, Bool, true, false, not, ◌&&◌, ◌||◌, List}
-use Rattle.std.specs.Prelude.{[], ◌∷◌, ◌++◌, filter, map, length, bytes_eq, is_some, Option, Some}
+use Rattle.std.specs.Prelude.{[], ◌∷◌, filter, map, length, is_some, Option, Some}
 use Rattle.std.specs.Prelude.{None, option_and_then, unwrap_or, if◌then◌else◌, Result, Ok, Err}
 use Rattle.std.specs.List.{list_all, list_any}
 use Rattle.std.specs.Option.{option_map_or, option_or}
@@ -25,7 +25,8 @@ use Rattle.addressing.specs.declared.addr.Addr.{Addr}
 use Rattle.addressing.specs.declared.addr.Addr.TheVariants.{Local, Foreign, OtherProvider}
 use Rattle.addressing.specs.declared.addr.AddrFault.{AddrFault}
 use Rattle.attribute_rules.specs.Admission.{is_named}
-use Rattle.policy_eval.specs.Rules.{listed_in, texts_of}
+use Rattle.policy_eval.specs.Rules.{each_once, listed_in, texts_of}
+pub use Rattle.policy_eval.specs.Rules.{new_after}
 use Rattle.entity_model.specs.Entity.{EntityData}
 use Rattle.request_rules.specs.Asked.{Creation}
 use Rattle.request_rules.specs.Policies.{listed}
@@ -126,16 +127,9 @@ have_addresses home m = option_map_or (λ (x : MembershipData). are_addresses ho
 
 -- ---- how many there are
 
--- those that didn't stand before, each where it stands first
-abbrev pub new_after : List (List ℕ) → List (List ℕ) → List (List ℕ)
-new_after seen [] = []
-new_after seen (address ∷ texts) =
-    if list_any (bytes_eq address) seen then new_after seen texts
-    else address ∷ new_after (seen ++ address ∷ []) texts
-
 -- the texts among values, without repeats
 abbrev pub distinct_texts : List Data → List (List ℕ)
-distinct_texts values = new_after [] (texts_of values)
+distinct_texts values = each_once (texts_of values)
 
 -- how many members a group has at most (the profile's)
 abbrev pub greatest_members : ℕ

@@ -1,15 +1,12 @@
 -- What a request to a resource asks for, by its operation (TS-0001, 10.2; TS-0004, 7.3.3).
 use Rattle.std.specs.Prelude.{ℕ, Bool, true, false, ◌&&◌, ◌||◌, List, [], not, Option, Some, None}
-use Rattle.std.specs.Prelude.{bytes_eq, option_and_then, unwrap_or}
+use Rattle.std.specs.Prelude.{option_and_then, unwrap_or}
 use Rattle.std.specs.Cmp.Lexicographic.{slice_cmp}
 use Rattle.std.specs.FinMap.Entries.{is_sorted}
-use Rattle.std.specs.List.{list_any}
 use Rattle.std.specs.Option.{option_map_or}
 use Rattle.std.specs.Ordering.{nat_cmp}
-use Rattle.m2m_names.specs.Attributes.{attr_short}
 use Rattle.m2m_names.specs.Stamps.{last_moment}
 use Rattle.m2m_names.specs.Types.{ty_of_number, does_take}
-use Rattle.m2m_names.specs.declared.attributes.Attr.TheVariants.{Aa, At}
 use Rattle.m2m_names.specs.declared.operations.Op.{Op}
 use Rattle.m2m_names.specs.declared.operations.Op.TheVariants.{Create, Retrieve, Update, Delete}
 use Rattle.m2m_names.specs.declared.operations.Op.TheVariants.{Notify}
@@ -69,24 +66,14 @@ named_for request ty = unwrap_or (content_for request ty) []
 abbrev pub named_by : Op → RequestParts → ResourceData → List Entry
 named_by op request r = option_map_or (named_for request) (content_ty op request r) []
 
--- an attribute with this name announces a resource, or says what of it is announced (TS-0001,
--- 9.6.26)
-abbrev pub is_of_copy : List ℕ → Bool
-is_of_copy name = bytes_eq (attr_short At) name || bytes_eq (attr_short Aa) name
-
--- The content names one of the two.
-abbrev pub names_copy : List Entry → Bool
-names_copy es = list_any (λ (e : Entry). is_of_copy e.0) es
-
 -- the attributes stand in the order of their names, each once, as the members of an object do (RFC
 -- 8259, section 4)
 abbrev pub are_in_order : List Entry → Bool
 are_in_order es = is_sorted (slice_cmp nat_cmp) es
 
--- These attributes are admitted for a resource of the type (TS-0004, 7.4): each is named once, and
--- those that ask for copies aren't, as long as none are made.
+-- These attributes are admitted for a resource of the type (TS-0004, 7.4), each being named once.
 abbrev pub admits : Writing → Ty → List Entry → Bool
-admits writing ty es = are_in_order es && not (names_copy es) && are_admitted writing ty es
+admits writing ty es = are_in_order es && are_admitted writing ty es
 
 -- the content is one for the type, with such attributes
 abbrev pub is_content_for : Writing → RequestParts → Ty → Bool

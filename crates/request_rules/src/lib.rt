@@ -10,7 +10,7 @@
 //! the attributes that the content names. They change nothing. `Creation` also says which resource
 //! a Create makes, as its name, its identifiers and its size are what places speak of.
 //!
-//! An originator is passed in its short form. A content that asks for copies isn't admitted yet.
+//! An originator is passed in its short form.
 //!
 //! ```text
 //! let target = 1; // the CSEBase

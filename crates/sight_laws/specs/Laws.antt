@@ -44,8 +44,8 @@ rule_attrs = Acpi ∷ Pv ∷ Pvs ∷ []
 abbrev pub names_rules : List Entry → Bool
 names_rules es = list_any (λ a. is_named a es) rule_attrs
 
--- The content of the request names one of them, for some type: after its Update others may be judged
--- anew.
+-- The content of the request names one of them, for some type: after its Update others may be
+-- judged anew.
 abbrev pub changes_rules : RequestParts → Bool
 changes_rules request = list_any (λ ty. names_rules (named_for request ty)) all_types
 

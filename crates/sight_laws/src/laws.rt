@@ -21,8 +21,8 @@ pub fn an_update_is_seen_alike()
     ensures { UpdatesAreSeenAlike }
 {}
 
-/// An Update that names policies or rules has the same reply in two sound entities of one shape, and
-/// leaves one shape.
+/// An Update that names policies or rules has the same reply in two sound entities of one shape,
+/// and leaves one shape.
 pub fn a_rule_update_keeps_one_shape()
     ensures { RuleUpdatesKeepOneShape }
 {}

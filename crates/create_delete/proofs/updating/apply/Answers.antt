@@ -1,7 +1,6 @@
 use Rattle.std.proofs.Common.{◌≡◌, ◌≤◌, ℕ, List, Some, true, sym, ap, ◌∙◌, subst}
 use Rattle.std.specs.List.{AllByRecursion}
 use Rattle.notify_outbox.specs.declared.item.Item.{Item}
-use Rattle.subscription_match.specs.Notices.{notes_of_all}
 use Rattle.tree_model.specs.Changes.{update_changes}
 use Rattle.tree_model.specs.Tree.{at, is_tree, DoAscend}
 use Rattle.tree_model.proofs.GrowthLemmas.{tree_from_well_formed}
@@ -45,7 +44,7 @@ invariant_of-entity-2 g c =
     let may : IsReplacement before now = subst (λ (e : EntityData). IsReplacement e now) (sym c.entity.view_is) c.requires.may in
     let gone : c.args.prepared.gone ≡ pushed_by before now = subst (λ (e : EntityData). c.args.prepared.gone ≡ pushed_by e now) (sym c.entity.view_is) c.requires.gone in
     let stood = stood_there before.nodes now may.stood in
-    let told = subst (λ (ns : List ℕ). IsTold before.home before.nodes (notes_of_all before.home before.nodes ns (update_changes before.nodes stood.before now c.args.prepared.named ns)) c.in_ok-told.told) c.entries.ensures (c.in_ok-told.ensures.told stood.before stood.found) in
+    let told = subst (λ (ns : List ℕ). IsTold before.home before.nodes ns (update_changes before.nodes stood.before now c.args.prepared.named ns) c.in_ok-told.told) c.entries.ensures (c.in_ok-told.ensures.told stood.before stood.found) in
     let first = updated_after before now _ _ _ c.replace.ensures (c.entries-2.ensures ∙ gone) c.remove_all.ensures in
     subst IsSoundEntity (sym (updated_carried before stood.before now c.args.prepared.named c.args.prepared.gone c.in_ok-told.told c.entity.invariant may gone told _ _ _ _ first c.tell.ensures.nodes (appended before _ _ _ _ _ c.prepare_update.ensures.items c.prepare_update.ensures.count c.tell.ensures.items c.tell.ensures.count)))
     (updated_told_sound before stood.before now c.args.prepared.named c.args.prepared.gone c.entity.invariant may)
@@ -57,7 +56,7 @@ returns-clause-after g c r found =
     let may : IsReplacement before now = subst (λ (e : EntityData). IsReplacement e now) (sym c.entity.view_is) c.requires.may in
     let gone : c.args.prepared.gone ≡ pushed_by before now = subst (λ (e : EntityData). c.args.prepared.gone ≡ pushed_by e now) (sym c.entity.view_is) c.requires.gone in
     let stands : at now.number before.nodes ≡ Some r = ap (λ (e : EntityData). at now.number e.nodes) c.entity.view_is ∙ found in
-    let told = subst (λ (ns : List ℕ). IsTold before.home before.nodes (notes_of_all before.home before.nodes ns (update_changes before.nodes r now c.args.prepared.named ns)) c.in_ok-told.told) c.entries.ensures (c.in_ok-told.ensures.told r stands) in
+    let told = subst (λ (ns : List ℕ). IsTold before.home before.nodes ns (update_changes before.nodes r now c.args.prepared.named ns) c.in_ok-told.told) c.entries.ensures (c.in_ok-told.ensures.told r stands) in
     let first = updated_after before now _ _ _ c.replace.ensures (c.entries-2.ensures ∙ gone) c.remove_all.ensures in
     updated_carried before r now c.args.prepared.named c.args.prepared.gone c.in_ok-told.told c.entity.invariant may gone told _ _ _ _ first c.tell.ensures.nodes (appended before _ _ _ _ _ c.prepare_update.ensures.items c.prepare_update.ensures.count c.tell.ensures.items c.tell.ensures.count)
     ∙ ap (λ (e : EntityData). updated_told e r now c.args.prepared.named c.args.prepared.gone) c.entity.view_is

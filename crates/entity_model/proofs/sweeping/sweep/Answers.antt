@@ -32,6 +32,10 @@ told_none e reading moment sound is none =
     ap (λ (m : ℕ). expired m e) is
     ∙ sym (none_told (event_moment e.last reading) e (sound_expired (event_moment e.last reading) e later (moment_small e.last reading sound.last) sound) at)
 
+-- what is told at the moment of the reading is what the reading finds
+told_is : (e after : EntityData) (reading moment : ℕ) → moment ≡ event_moment e.last reading → after ≡ expired_told moment e → after ≡ swept reading e
+told_is e after reading moment is told = told ∙ ap (λ (m : ℕ). expired_told m e) is
+
 pub returns-then-moment-entity-clause-ok : goal.returns-then-moment-entity-clause-ok
 returns-then-moment-entity-clause-ok g c =
     let early : cut c.args.reading ≤ c.entity.inside.last = omega (arith, c.event_moment-moment.ensures, c.if-moment-entity.true) in
@@ -54,7 +58,7 @@ returns-then-is_empty-clause-ok g c =
 pub returns-clause-ok : goal.returns-clause-ok
 returns-clause-ok g c =
     let moment : c.event_moment-moment.result ≡ event_moment c.args.entity.now.last c.args.reading = c.event_moment-moment.ensures ∙ ap (λ (e : EntityData). event_moment e.last c.args.reading) c.entity.view_is in
-    on_ok_weaker c.expire_and_tell.result (λ is. is ∙ ap (λ (m : ℕ). expired_told m c.args.entity.now) moment) c.expire_and_tell.ensures.ok
+    on_ok_weaker c.expire_and_tell.result (told_is c.args.entity.now c.expire_and_tell.new.entity c.args.reading c.event_moment-moment.result moment) c.expire_and_tell.ensures.ok
 
 pub returns-clause-memory : goal.returns-clause-memory
 returns-clause-memory g c =

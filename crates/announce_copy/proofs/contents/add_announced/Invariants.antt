@@ -1,0 +1,11 @@
+use Rattle.std.proofs.Common.{◌≡◌, drop}
+use Rattle.std.specs.List.{filter_map}
+use Rattle.tree_model.specs.Shown.{with_rows}
+use Rattle.announce_copy.specs.Announced.{announced_row}
+use Rattle.announce_copy.proofs.contents.add_announced.Given as goal
+
+-- what has been set so far, with what is left to be set, is all
+abbrev pub invariant-loop-attr : goal.invariant-loop-attr
+invariant-loop-attr l =
+    with_rows (filter_map (announced_row l.resource) (drop l.attr-index l.all)) l.attrs
+    ≡ with_rows (filter_map (announced_row l.resource) l.all) l.fn.attrs

@@ -1,0 +1,10 @@
+pub mod HistoryLemmas
+pub mod KeptLemmas
+pub mod LeadingLemmas
+pub mod MemberLemmas
+pub mod NoteLemmas
+pub mod OperatedLemmas
+pub mod PlacedLemmas
+pub mod RequestLemmas
+pub mod RunLemmas
+pub mod StepLemmas

@@ -1,0 +1,10 @@
+pub mod TextLemmas
+pub mod AddressLemmas
+pub mod ContentLemmas
+pub mod DraftLemmas
+pub mod FollowingLemmas
+pub mod KeptLemmas
+pub mod LeadLemmas
+pub mod OperationLemmas
+pub mod BothLemmas
+pub mod RemovalLemmas
