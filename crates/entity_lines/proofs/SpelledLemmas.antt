@@ -8,9 +8,9 @@ use Rattle.primitive_json.specs.Notes.{IsSoundDest}
 use Rattle.primitive_json.specs.declared.request.RequestParts.{RequestParts}
 use Rattle.notify_outbox.specs.declared.item.Item.{Item}
 use Rattle.journal_lines.proofs.EndLemmas.{behind_then, first_then, front_whole, has_then, line_then, split_line}
-use Rattle.journal_lines.proofs.SpelledLemmas.{deed_begins, deed_read}
-use Rattle.journal_lines.specs.Lines.{behind_line, deed_at, deed_len, ended, first_deed, first_line, has_line, line_len}
-use Rattle.journal_lines.specs.Spelled.{BeginsWithDeed, SpellsDeed, has_no_end}
+use Rattle.journal_lines.proofs.SpelledLemmas.{dated_begins, dated_read}
+use Rattle.journal_lines.specs.Lines.{behind_line, deed_at, dated_len, ended, first_dated, first_line, has_line, line_len}
+use Rattle.journal_lines.specs.Spelled.{BeginsWithDated, SpellsDated, has_no_end}
 use Rattle.journal_lines.specs.declared.deed.Dated.{Dated}
 use Rattle.journal_lines.specs.declared.deed.Deed.{Deed}
 use Rattle.journal_lines.specs.declared.deed.Deed.TheVariants.{Ask, Take, Tick}
@@ -122,7 +122,7 @@ module _ (r : ResourceData) where
 
 -- what the lines behind the first one give
 abbrev behind_tag : List ℕ → Tag → Option Item
-behind_tag text tag = option_and_then (dated_item tag) (first_deed text)
+behind_tag text tag = option_and_then (dated_item tag) (first_dated text)
 
 module _ (item : Item) where
   pub item_read : (front back : List ℕ) → SpellsItem item front → (first_item (front ++ back) ≡ Some item) × (item_len (front ++ back) ≡ length front)
@@ -130,7 +130,7 @@ module _ (item : Item) where
       let line = spells.line in
       let rest : List ℕ = spells.lines ++ back in
       let at : front ++ back ≡ ended line ++ rest = ap (λ (l : List ℕ). l ++ back) spells.split ∙ append_assoc (ended line) spells.lines back in
-      let deed = deed_read (deed_at item.since (Ask item.note.request)) spells.lines back spells.asks in
+      let deed = dated_read (deed_at item.since (Ask item.note.request)) spells.lines back spells.asks in
       let behind : behind_line (ended line ++ rest) ≡ rest = line_behind line rest spells.whole in (
         ap first_item at
             ∙ ap (λ b. if b then option_and_then (behind_tag (behind_line (ended line ++ rest))) (tag_spelled (first_line (ended line ++ rest))) else None) (line_has line rest spells.whole)
@@ -142,7 +142,7 @@ module _ (item : Item) where
           arith,
           ap item_len at,
           line_size line rest spells.whole,
-          ap deed_len behind,
+          ap dated_len behind,
           deed.1,
           ap length spells.split,
           length-append (ended line) spells.lines,
@@ -151,11 +151,11 @@ module _ (item : Item) where
 
   -- the tag and the request that an item was read from
   module _ (text : List ℕ) (sound : IsSoundDest item.note.dest) (has : has_line text ≡ true) where
-    by_deed : (tag : Tag) → tag_spelled (first_line text) ≡ Some tag → (since : ℕ) (deed : Deed) → first_deed (behind_line text) ≡ Some (deed_at since deed) → asked_item tag since deed ≡ Some item → BeginsBy (SpellsItem item) (item_len text) text
+    by_deed : (tag : Tag) → tag_spelled (first_line text) ≡ Some tag → (since : ℕ) (deed : Deed) → first_dated (behind_line text) ≡ Some (deed_at since deed) → asked_item tag since deed ≡ Some item → BeginsBy (SpellsItem item) (item_len text) text
     by_deed tag tagged since (Ask request) found made =
         let whole : Some (item_of tag since request) ≡ Some item = made in
         let same : item_of tag since request ≡ item = cc in
-        let begins = deed_begins (behind_line text) (deed_at since (Ask request)) found in
+        let begins = dated_begins (behind_line text) (deed_at since (Ask request)) found in
         record {
           front = ended (first_line text) ++ begins.front;
           back = begins.back;
@@ -166,7 +166,7 @@ module _ (item : Item) where
             split = refl;
             whole = front_whole text;
             means = tagged ∙ ap (λ (i : Item). Some (item_tag i)) same;
-            asks = subst (λ (i : Item). SpellsDeed (deed_at i.since (Ask i.note.request)) begins.front) same begins.spells;
+            asks = subst (λ (i : Item). SpellsDated (deed_at i.since (Ask i.note.request)) begins.front) same begins.spells;
             sound = sound;
           };
           size = omega (arith, length-append (ended (first_line text)) begins.front, first_size text has, begins.len);
@@ -174,13 +174,13 @@ module _ (item : Item) where
     by_deed tag tagged since Take found made = none_some item made
     by_deed tag tagged since Tick found made = none_some item made
 
-    by_dated : (tag : Tag) → tag_spelled (first_line text) ≡ Some tag → (o : Option Dated) → first_deed (behind_line text) ≡ o → option_and_then (dated_item tag) o ≡ Some item → BeginsBy (SpellsItem item) (item_len text) text
+    by_dated : (tag : Tag) → tag_spelled (first_line text) ≡ Some tag → (o : Option Dated) → first_dated (behind_line text) ≡ o → option_and_then (dated_item tag) o ≡ Some item → BeginsBy (SpellsItem item) (item_len text) text
     by_dated tag tagged None found made = none_some item made
     by_dated tag tagged (Some dated) found made = by_deed tag tagged dated.moment dated.deed found made
 
     by_tag : (o : Option Tag) → tag_spelled (first_line text) ≡ o → option_and_then (behind_tag (behind_line text)) o ≡ Some item → BeginsBy (SpellsItem item) (item_len text) text
     by_tag None tagged made = none_some item made
-    by_tag (Some tag) tagged made = by_dated tag tagged (first_deed (behind_line text)) refl made
+    by_tag (Some tag) tagged made = by_dated tag tagged (first_dated (behind_line text)) refl made
 
   -- the tag that an item was read from
   tag_by_deed : (tag : Tag) (since : ℕ) (deed : Deed) → asked_item tag since deed ≡ Some item → tag.dest ≡ item.note.dest
@@ -197,7 +197,7 @@ module _ (item : Item) where
 
   tag_by_line : (text : List ℕ) (o : Option Tag) → tag_spelled (first_line text) ≡ o → option_and_then (behind_tag (behind_line text)) o ≡ Some item → (tag : Tag) × (tag_spelled (first_line text) ≡ Some tag) × (tag.dest ≡ item.note.dest)
   tag_by_line text None tagged made = none_some item made
-  tag_by_line text (Some tag) tagged made = (tag, tagged, tag_by_dated tag (first_deed (behind_line text)) made)
+  tag_by_line text (Some tag) tagged made = (tag, tagged, tag_by_dated tag (first_dated (behind_line text)) made)
 
   pub tag_there : (text : List ℕ) → first_item text ≡ Some item → (tag : Tag) × (tag_spelled (first_line text) ≡ Some tag) × (tag.dest ≡ item.note.dest)
   tag_there text read = elim (cases_Bool (has_line text)) [

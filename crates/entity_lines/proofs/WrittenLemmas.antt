@@ -18,8 +18,8 @@ use Rattle.resource_lines.specs.Written.{resource_data}
 use Rattle.journal_lines.proofs.EndLemmas.{inner_whole}
 use Rattle.journal_lines.proofs.InnerLemmas.{inner_text}
 use Rattle.journal_lines.specs.Header.{home_data}
-use Rattle.journal_lines.specs.Lines.{deed_at, lines_of}
-use Rattle.journal_lines.specs.Spelled.{SpellsDeed, has_no_end}
+use Rattle.journal_lines.specs.Lines.{deed_at, dated_lines}
+use Rattle.journal_lines.specs.Spelled.{SpellsDated, has_no_end}
 use Rattle.journal_lines.specs.declared.deed.Deed.TheVariants.{Ask}
 use Rattle.journal_lines.specs.declared.header.HeaderFault.TheVariants.{NoHeader, OtherHome}
 use Rattle.primitive_json.specs.Notes.{IsSoundDest}
@@ -94,10 +94,10 @@ tag_depth item = (let few = dest_depth item.note.dest in omega (arith, few))
 pub tag_read : (item : Item) → reading (text_of (tag_data item)) ≡ Ok (tag_data item) → tag_spelled (text_of (tag_data item)) ≡ Some (item_tag item)
 tag_read item read = ap (λ r. option_and_then tag_in (result_ok r)) read ∙ tag_back item
 
-pub item_spells : (item : Item) → tag_spelled (text_of (tag_data item)) ≡ Some (item_tag item) → SpellsDeed (deed_at item.since (Ask item.note.request)) (lines_of item.since (Ask item.note.request)) → IsSoundDest item.note.dest → SpellsItem item (item_lines item)
+pub item_spells : (item : Item) → tag_spelled (text_of (tag_data item)) ≡ Some (item_tag item) → SpellsDated (deed_at item.since (Ask item.note.request)) (dated_lines item.since (Ask item.note.request)) → IsSoundDest item.note.dest → SpellsItem item (item_lines item)
 item_spells item means asks sound = record {
   line = text_of (tag_data item);
-  lines = lines_of item.since (Ask item.note.request);
+  lines = dated_lines item.since (Ask item.note.request);
   split = refl;
   whole = value_whole (tag_data item);
   means = means;

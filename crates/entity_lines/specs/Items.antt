@@ -16,9 +16,9 @@ use Rattle.primitive_json.specs.declared.note.Kind.TheVariants.{Notification, Re
 use Rattle.primitive_json.specs.declared.request.RequestParts.{RequestParts}
 use Rattle.notify_outbox.specs.declared.item.Item.{Item}
 use Rattle.journal_lines.specs.Keeping.{can_be_kept}
-use Rattle.journal_lines.specs.Lines.{behind_line, deed_at, deed_len, ended, first_deed, first_line}
-use Rattle.journal_lines.specs.Lines.{has_line, line_len, lines_of, moment_bound}
-use Rattle.journal_lines.specs.Spelled.{SpellsDeed, has_no_end}
+use Rattle.journal_lines.specs.Lines.{behind_line, dated_len, dated_lines, deed_at, ended}
+use Rattle.journal_lines.specs.Lines.{first_dated, first_line, has_line, line_len, moment_bound}
+use Rattle.journal_lines.specs.Spelled.{SpellsDated, has_no_end}
 use Rattle.journal_lines.specs.declared.deed.Dated.{Dated}
 use Rattle.journal_lines.specs.declared.deed.Deed.{Deed}
 use Rattle.journal_lines.specs.declared.deed.Deed.TheVariants.{Ask, Take, Tick}
@@ -49,7 +49,7 @@ tag_data item =
 -- the line of these, and the lines of its request
 abbrev pub item_lines : Item → List ℕ
 item_lines item =
-    ended (text_of (tag_data item)) ++ lines_of item.since (Ask item.note.request)
+    ended (text_of (tag_data item)) ++ dated_lines item.since (Ask item.note.request)
 
 -- where an item leads is read back from what is written of it
 abbrev pub IsReadableDest : Dest → Type 0
@@ -136,13 +136,13 @@ dated_item tag dated = asked_item tag dated.moment dated.deed
 abbrev pub first_item : List ℕ → Option Item
 first_item bytes =
     if has_line bytes
-    then option_and_then (λ tag. option_and_then (dated_item tag) (first_deed (behind_line bytes)))
+    then option_and_then (λ tag. option_and_then (dated_item tag) (first_dated (behind_line bytes)))
     (tag_spelled (first_line bytes))
     else None
 
 -- how many bytes these lines have
 abbrev pub item_len : List ℕ → ℕ
-item_len bytes = line_len bytes + 1 + deed_len (behind_line bytes)
+item_len bytes = line_len bytes + 1 + dated_len (behind_line bytes)
 
 -- The text is the lines of an item.
 pub record SpellsItem (item : Item) (text : List ℕ) : Type 0 where
@@ -151,5 +151,5 @@ pub record SpellsItem (item : Item) (text : List ℕ) : Type 0 where
   pub split : text ≡ ended line ++ lines
   pub whole : has_no_end line ≡ true
   pub means : tag_spelled line ≡ Some (item_tag item)
-  pub asks : SpellsDeed (deed_at item.since (Ask item.note.request)) lines
+  pub asks : SpellsDated (deed_at item.since (Ask item.note.request)) lines
   pub sound : IsSoundDest item.note.dest

@@ -18,7 +18,7 @@ ghost use Rattle.entity_lines.specs.declared.items.Tag.{Tag};
 
 use crate::values::{count_value, pair_value, triple_value, values_in};
 use filter_criteria::text_value;
-use journal_lines::{Dated, Deed, LineFault, first_deed, line_len, push_request, push_value};
+use journal_lines::{Dated, Deed, LineFault, first_dated, line_len, push_dated, push_value};
 use m2m_names::{LARGEST_COUNT, read_url};
 use m2m_value::{OutOfMemory, Scratch, Text, Val, ValFault, read_in};
 use notify_outbox::Item;
@@ -135,7 +135,7 @@ fn push_lines(alloc: Global, text: &mut Vec<u8>, item: &Item) -> Result<(), Line
         return Err(LineFault::Unkept);
     }
     push_tag(alloc, text, item)?;
-    push_request(alloc, text, item.since, &item.note.parts().request)?;
+    push_dated(alloc, text, item.since, &item.note.parts().request)?;
     Ok(())
 }
 
@@ -306,11 +306,11 @@ fn asked_item(
 ) -> Result<Option<(Item, usize)>, OutOfMemory>
     requires { IsSoundDest tag.dest }
     ensures item { IfOk result (λ found. option_map (λ f. f.0) found
-        ≡ option_and_then (spec.dated_item tag) (lines.first_deed text.now)) }
-    ensures len { IfOk result (λ found. IfSome found (λ f. f.1 ≡ lines.deed_len text.now)) }
+        ≡ option_and_then (spec.dated_item tag) (lines.first_dated text.now)) }
+    ensures len { IfOk result (λ found. IfSome found (λ f. f.1 ≡ lines.dated_len text.now)) }
     ensures within { IfOk result (λ found. IfSome found (λ f. f.1 ≤ length text.now)) }
 {
-    let Some((dated, len)) = first_deed(alloc, scratch, text)? else {
+    let Some((dated, len)) = first_dated(alloc, scratch, text)? else {
         return Ok(None);
     };
     match dated_item(tag, dated) {

@@ -9,9 +9,9 @@
 //!
 //! Laws say which events of the machine have to be kept, so that playing them again makes the
 //! entity that all of them made. An event is kept with the moment that the entity has after it, and
-//! not with the reading of the clock, which may lie before an earlier one. An event is left out only
-//! where it changed nothing but the moment (specs/Kept). No program calls these laws; the proofs of
-//! journaled_entity stand on them.
+//! not with the reading of the clock, which may lie before an earlier one. An event is left out
+//! only where it changed nothing but the moment (specs/Kept). No program calls these laws; the
+//! proofs of journaled_entity stand on them.
 //!
 //! ```text
 //! KeptEvent::Next             // KeptOutcome::Next(Some(item)): send item.note

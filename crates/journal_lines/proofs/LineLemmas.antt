@@ -27,11 +27,11 @@ use Rattle.primitive_json.specs.declared.request.When.TheVariants.{At, Millis}
 use Rattle.filter_criteria.specs.Laws.{IsFilterOfKinds}
 use Rattle.filter_criteria.specs.declared.filter.FilterParts.{FilterParts}
 use Rattle.journal_lines.specs.Keeping.{can_be_kept, is_of_kinds, is_shallow, is_short_when, kept_value}
-use Rattle.journal_lines.specs.Lines.{IsReadBack, behind_line, deed_at, deed_in, deed_len, deed_of, ended, first_deed, first_line, has_line, is_inner, line_len, lines_of, moment_bound, moment_line, moment_of, word_of}
+use Rattle.journal_lines.specs.Lines.{IsReadBack, behind_line, dated_lines, deed_at, deed_in, deed_len, deed_of, ended, first_deed, first_line, has_line, is_inner, line_len, lines_of, moment_bound, moment_line, moment_of, word_of}
 use Rattle.journal_lines.specs.declared.deed.Deed.{Deed}
 use Rattle.journal_lines.specs.declared.deed.Deed.TheVariants.{Ask, Take, Tick}
 use Rattle.journal_lines.specs.declared.deed.Dated.{Dated}
-use Rattle.journal_lines.specs.Spelled.{SpellsDeed}
+use Rattle.journal_lines.specs.Spelled.{SpellsDated, SpellsDeed}
 use Rattle.journal_lines.proofs.EndLemmas.{inner_whole}
 use Rattle.journal_lines.proofs.InnerLemmas.{inner_append, inner_decimal, inner_text}
 use Rattle.journal_lines.proofs.SpelledLemmas.{deed_read}
@@ -74,14 +74,21 @@ deed_back moment deed short back =
     ap (λ m. option_and_then (λ n. option_map (deed_at n) (deed_of (word_of deed))) m) (moment_back moment short)
     ∙ ap (option_map (deed_at moment)) back
 
-pub deeds_spelled : (moment : ℕ) (deed : Deed) → moment < moment_bound → IsReadBack deed → SpellsDeed (deed_at moment deed) (lines_of moment deed)
-deeds_spelled moment deed short back = record {
+pub dated_spelled : (moment : ℕ) (deed : Deed) → moment < moment_bound → IsReadBack deed → SpellsDated (deed_at moment deed) (dated_lines moment deed)
+dated_spelled moment deed short back = record {
   stamp = moment_line moment;
   word = word_of deed;
   split = refl;
   stamp_whole = inner_whole (moment_line moment) (inner_moment moment);
   word_whole = inner_whole (word_of deed) (inner_word deed);
   means = deed_back moment deed short back;
+}
+
+pub deeds_spelled : (moment : ℕ) (deed : Deed) → moment < moment_bound → IsReadBack deed → SpellsDeed (deed_at moment deed) (lines_of moment deed)
+deeds_spelled moment deed short back = record {
+  lines = dated_lines moment deed;
+  split = refl;
+  spells = dated_spelled moment deed short back;
 }
 
 pub deeds_back : (moment : ℕ) (deed : Deed) (behind : List ℕ) → moment < moment_bound → IsReadBack deed

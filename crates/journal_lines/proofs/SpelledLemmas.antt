@@ -1,11 +1,18 @@
 -- What spells a header or a deed is read as it, and what is read is spelled so.
-use Rattle.std.proofs.Common.{◌≡◌, ℕ, ◌+◌, ◌==◌, ◌<◌, ◌≤◌, nat_lt, List, [], ◌∷◌, ◌++◌, length, take, drop, Bool, true, false, not, ◌&&◌, cond, if◌then◌else◌, Option, Some, None, Result, Ok, Err, inl, inr, refl, sym, ap, ◌∙◌, subst, arith, append_assoc, length-append}
-use Rattle.std.proofs.lemmas.Bool.{and_parts, cases_Bool}
+use Rattle.std.proofs.Common.{◌≡◌, ℕ, ◌+◌, ◌==◌, nat_eq, nat_le, ◌<◌, ◌≤◌, nat_lt, List, [], ◌∷◌, ◌++◌, length, take, drop, Bool, true, false, not, ◌&&◌, cond, if◌then◌else◌, Option, Some, None, is_some, option_and_then, option_map, Result, Ok, Err, inl, inr, refl, sym, ap, ◌∙◌, subst, arith, append_assoc, length-append}
+use Rattle.std.proofs.lemmas.Bool.{and_parts, cases_Bool, eqb-true, leb-true}
+use Rattle.std.proofs.lemmas.Bool.Decides.{Decides-eqb, nat_tests}
+use Rattle.std.proofs.lemmas.Slice.Eq.{starts_is}
+use Rattle.std.specs.Char.{is_ascii_digit}
+use Rattle.std.specs.List.{list_all, starts_with}
+use Rattle.std.specs.Str.Parse.{digits_value}
+use Rattle.m2m_names.specs.Ids.{number_spelled}
+use Rattle.m2m_names.specs.Name.{is_filled, is_numeral, numeral_limit}
 use Rattle.resource_model.specs.Home.{HomeData}
 use Rattle.journal_lines.proofs.EndLemmas.{behind_then, first_then, front_whole, has_then, line_then, split_line}
 use Rattle.journal_lines.specs.Header.{first_header, header_spelled}
-use Rattle.journal_lines.specs.Lines.{behind_line, deed_in, deed_len, ended, first_deed, first_line, has_line, line_len}
-use Rattle.journal_lines.specs.Spelled.{BeginsWithDeed, BeginsWithHeader, SpellsDeed, SpellsHeader, has_no_end}
+use Rattle.journal_lines.specs.Lines.{begins_unmarked, behind_line, dated_len, deed_at, deed_in, deed_len, deed_mark, deed_of, moment_of, ended, first_dated, first_deed, first_line, has_line, line_len}
+use Rattle.journal_lines.specs.Spelled.{BeginsWithDated, BeginsWithDeed, BeginsWithHeader, SpellsDated, SpellsDeed, SpellsHeader, has_no_end}
 use Rattle.journal_lines.specs.declared.deed.Dated.{Dated}
 use Rattle.journal_lines.specs.declared.header.HeaderFault.{HeaderFault}
 use Rattle.journal_lines.specs.declared.header.HeaderFault.TheVariants.{NoHeader}
@@ -25,7 +32,7 @@ module _ (stamp word behind : List ℕ) (stamp_whole : has_no_end stamp ≡ true
       ∙ append_assoc stamp (10 ∷ []) (ended word ++ behind)
       ∙ ap (λ (l : List ℕ). stamp ++ 10 ∷ l) (append_assoc word (10 ∷ []) behind)
 
-  of_apart : first_deed (stamp ++ 10 ∷ second_text) ≡ deed_in stamp word
+  of_apart : first_dated (stamp ++ 10 ∷ second_text) ≡ deed_in stamp word
   of_apart =
       rw (
         has_then stamp second_text stamp_whole,
@@ -36,7 +43,7 @@ module _ (stamp word behind : List ℕ) (stamp_whole : has_no_end stamp ≡ true
       )
       refl
 
-  len_apart : deed_len (stamp ++ 10 ∷ second_text) ≡ length stamp + 1 + (length word + 1)
+  len_apart : dated_len (stamp ++ 10 ∷ second_text) ≡ length stamp + 1 + (length word + 1)
   len_apart =
       rw (
         behind_then stamp second_text stamp_whole,
@@ -52,15 +59,15 @@ module _ (stamp word behind : List ℕ) (stamp_whole : has_no_end stamp ≡ true
     length-append word (10 ∷ []),
   )
 
-  pub two_read : (first_deed lines_text ≡ deed_in stamp word) × (deed_len lines_text ≡ length (ended stamp ++ ended word))
-  two_read = (ap first_deed apart ∙ of_apart, ap deed_len apart ∙ len_apart ∙ sym len_whole)
+  pub two_read : (first_dated lines_text ≡ deed_in stamp word) × (dated_len lines_text ≡ length (ended stamp ++ ended word))
+  two_read = (ap first_dated apart ∙ of_apart, ap dated_len apart ∙ len_apart ∙ sym len_whole)
 
-pub deed_read : (dated : Dated) (front back : List ℕ) → SpellsDeed dated front
-    → (first_deed (front ++ back) ≡ Some dated) × (deed_len (front ++ back) ≡ length front)
-deed_read dated front back spells =
+pub dated_read : (dated : Dated) (front back : List ℕ) → SpellsDated dated front
+    → (first_dated (front ++ back) ≡ Some dated) × (dated_len (front ++ back) ≡ length front)
+dated_read dated front back spells =
     let read = two_read spells.stamp spells.word back spells.stamp_whole spells.word_whole in (
-      ap (λ (l : List ℕ). first_deed (l ++ back)) spells.split ∙ read.0 ∙ spells.means,
-      ap (λ (l : List ℕ). deed_len (l ++ back)) spells.split ∙ read.1 ∙ ap length (sym spells.split),
+      ap (λ (l : List ℕ). first_dated (l ++ back)) spells.split ∙ read.0 ∙ spells.means,
+      ap (λ (l : List ℕ). dated_len (l ++ back)) spells.split ∙ read.1 ∙ ap length (sym spells.split),
     )
 
 none_some : {A B : Type 0} (x : A) → None ≡ Some x → B
@@ -86,7 +93,7 @@ module _ (text : List ℕ) (dated : Dated) where
       ∙ append_assoc stamp_of (10 ∷ []) (ended word_of ++ left)
       ∙ ap (λ (l : List ℕ). stamp_of ++ 10 ∷ l) (append_assoc word_of (10 ∷ []) left))
 
-  begins_then : has_line text && has_line (behind_line text) ≡ true → deed_in stamp_of word_of ≡ Some dated → BeginsWithDeed dated text
+  begins_then : has_line text && has_line (behind_line text) ≡ true → deed_in stamp_of word_of ≡ Some dated → BeginsWithDated dated text
   begins_then both means =
       let ends = and_parts (has_line text) (has_line (behind_line text)) both in
       let split = two_lines ends.0 ends.1 in
@@ -104,14 +111,107 @@ module _ (text : List ℕ) (dated : Dated) where
           word_whole = whole_word;
           means = means;
         };
-        len = sym (ap deed_len split ∙ (two_read stamp_of word_of left whole_stamp whole_word).1);
+        len = sym (ap dated_len split ∙ (two_read stamp_of word_of left whole_stamp whole_word).1);
       }
 
-  pub deed_begins : first_deed text ≡ Some dated → BeginsWithDeed dated text
-  deed_begins read = elim (cases_Bool (has_line text && has_line (behind_line text))) [
+  pub dated_begins : first_dated text ≡ Some dated → BeginsWithDated dated text
+  dated_begins read = elim (cases_Bool (has_line text && has_line (behind_line text))) [
     | inl both ↦ begins_then both (sym (ap (λ b. if b then deed_in stamp_of word_of else None) both) ∙ read)
     | inr none ↦ none_some dated (sym (ap (λ b. if b then deed_in stamp_of word_of else None) none) ∙ read)
   ]
+
+-- ---- behind the mark
+
+pub deed_read : (dated : Dated) (front back : List ℕ) → SpellsDeed dated front
+    → (first_deed (front ++ back) ≡ Some dated) × (deed_len (front ++ back) ≡ length front)
+deed_read dated front back spells =
+    let read = dated_read dated spells.lines back spells.spells in (
+      ap (λ (l : List ℕ). first_deed (l ++ back)) spells.split ∙ read.0,
+      ap (λ (l : List ℕ). deed_len (l ++ back)) spells.split ∙ ap (λ (n : ℕ). 3 + n) read.1 ∙ sym (ap length spells.split ∙ length-append deed_mark spells.lines),
+    )
+
+module _ (text : List ℕ) (dated : Dated) where
+  marked : starts_with nat_eq text deed_mark ≡ true → text ≡ deed_mark ++ drop 3 text
+  marked is = (starts_is Decides-eqb text deed_mark (starts_with nat_eq text deed_mark) refl).0 is
+
+  begins_marked : starts_with nat_eq text deed_mark ≡ true → BeginsWithDated dated (drop 3 text) → BeginsWithDeed dated text
+  begins_marked is begins = record {
+    front = deed_mark ++ begins.front;
+    back = begins.back;
+    split = marked is ∙ ap (λ (l : List ℕ). deed_mark ++ l) begins.split ∙ sym (append_assoc deed_mark begins.front begins.back);
+    spells = record { lines = begins.front; split = refl; spells = begins.spells };
+    len = length-append deed_mark begins.front ∙ ap (λ (n : ℕ). 3 + n) begins.len;
+  }
+
+  pub deed_begins : first_deed text ≡ Some dated → BeginsWithDeed dated text
+  deed_begins read = elim (cases_Bool (starts_with nat_eq text deed_mark)) [
+    | inl is ↦ begins_marked is (dated_begins (drop 3 text) dated (sym (ap (λ b. if b then first_dated (drop 3 text) else None) is) ∙ read))
+    | inr none ↦ none_some dated (sym (ap (λ b. if b then first_dated (drop 3 text) else None) none) ∙ read)
+  ]
+
+-- ---- without the mark
+
+and_none : (b : Bool) → (b && false) ≡ false
+and_none true = refl
+and_none false = refl
+
+-- a digit isn't the last byte of the mark
+no_colon : (d : ℕ) → is_ascii_digit d ≡ true → nat_eq 58 d ≡ false
+no_colon d digit =
+    let few : d ≤ 57 = leb-true d 57 (and_parts (nat_le 48 d) (nat_le d 57) digit).1 in
+    grind (arith, nat_tests)
+
+-- what has digits and then the end of a line behind `@` doesn't begin with the mark
+no_mark : (digits rest : List ℕ) → list_all is_ascii_digit digits ≡ true → starts_with nat_eq (64 ∷ digits ++ 10 ∷ rest) deed_mark ≡ false
+no_mark [] rest all = refl
+no_mark (c ∷ []) rest all = and_none (nat_eq 50 c)
+no_mark (c ∷ d ∷ digits) rest all =
+    let digit = and_parts (is_ascii_digit d) _ (and_parts (is_ascii_digit c) _ all).1 in
+    rw (no_colon d digit.0) (and_none (nat_eq 50 c))
+
+none_deed : (text : List ℕ) → starts_with nat_eq text deed_mark ≡ false → first_deed text ≡ None
+none_deed text none = ap (λ b. if b then first_dated (drop 3 text) else None) none
+
+-- the line of a moment is `@` and digits
+module _ (word : List ℕ) (dated : Dated) where
+  abbrev moment_then : Option ℕ → Option Dated
+  moment_then o = option_and_then (λ moment. option_map (deed_at moment) (deed_of word)) o
+
+  some_there : (o : Option ℕ) → moment_then o ≡ Some dated → is_some o ≡ true
+  some_there None means = none_some dated means
+  some_there (Some moment) means = refl
+
+  digits_of : (digits : List ℕ) → moment_then (number_spelled digits) ≡ Some dated → list_all is_ascii_digit digits ≡ true
+  digits_of digits means = elim (cases_Bool (is_numeral digits)) [
+    | inl is ↦ (and_parts (is_filled numeral_limit digits) (list_all is_ascii_digit digits) is).1
+    | inr other ↦ none_some dated (sym (ap (λ b. moment_then (if b then Some (digits_value 10 digits) else None)) other) ∙ means)
+  ]
+
+pub stamp_is : (stamp word : List ℕ) (dated : Dated) → deed_in stamp word ≡ Some dated
+    → (digits : List ℕ) × (stamp ≡ 64 ∷ digits) × (list_all is_ascii_digit digits ≡ true)
+stamp_is [] word dated means = none_some dated means
+stamp_is (b ∷ digits) word dated means = elim (cases_Bool (b == 64)) [
+  | inl is ↦ (
+    digits,
+    ap (λ (c : ℕ). c ∷ digits) (eqb-true b 64 is),
+    digits_of word dated digits (sym (ap (λ t. moment_then word dated (if t then number_spelled digits else None)) is) ∙ means),
+  )
+  | inr other ↦ none_some dated (sym (ap (λ t. moment_then word dated (if t then number_spelled digits else None)) other) ∙ means)
+]
+
+pub unmarked_told : (dated : Dated) (front back : List ℕ) → SpellsDated dated front
+    → (first_deed (front ++ back) ≡ None) × (begins_unmarked (front ++ back) ≡ true)
+unmarked_told dated front back spells =
+    let stamp = spells.stamp in
+    let rest : List ℕ = spells.word ++ 10 ∷ back in
+    let digits = stamp_is stamp spells.word dated spells.means in
+    let at : front ++ back ≡ stamp ++ 10 ∷ rest = ap (λ (l : List ℕ). l ++ back) spells.split ∙ apart stamp spells.word back spells.stamp_whole spells.word_whole in
+    let shape : front ++ back ≡ 64 ∷ digits.0 ++ 10 ∷ rest = at ∙ ap (λ (l : List ℕ). l ++ 10 ∷ rest) digits.1 in (
+      none_deed (front ++ back) (ap (λ (l : List ℕ). starts_with nat_eq l deed_mark) shape ∙ no_mark digits.0 rest digits.2),
+      ap begins_unmarked at
+          ∙ ap (λ (l : List ℕ). is_some (moment_of l)) (first_then stamp rest spells.stamp_whole)
+          ∙ some_there spells.word dated (moment_of stamp) spells.means,
+    )
 
 -- ---- the first line
 

@@ -20,9 +20,9 @@ use Rattle.journal_lines.specs.declared.header.HeaderFault.TheVariants.{OtherHom
 
 -- ---- what is written
 
--- the number of the format
+-- the number of the format of journals, which is that of their deeds
 abbrev pub format : ℕ
-format = 1
+format = 2
 
 -- the names of the members
 abbrev pub format_name : List ℕ

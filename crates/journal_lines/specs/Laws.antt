@@ -1,12 +1,14 @@
 -- What is written of a deed and of a header is read back as it, whatever stands behind it.
-use Rattle.std.specs.Prelude.{◌≡◌, ◌≢◌, ℕ, ◌+◌, ◌<◌, true, IsTrue, List, ◌++◌, length, Some, Ok}
-use Rattle.std.specs.Prelude.{Err}
+use Rattle.std.specs.Prelude.{◌≡◌, ◌≢◌, ℕ, ◌+◌, ◌<◌, true, IsTrue, List, ◌++◌, length, Some, None}
+use Rattle.std.specs.Prelude.{Ok, Err}
 use Rattle.std.specs.List.{list_all}
 use Rattle.resource_model.specs.Home.{HomeData, IsHome}
 use Rattle.journal_lines.specs.Header.{first_header, header_of}
-use Rattle.journal_lines.specs.Lines.{IsReadBack, deed_at, deed_len, first_deed, is_inner, lines_of}
+use Rattle.journal_lines.specs.Lines.{IsReadBack, begins_unmarked, dated_len, dated_lines, deed_at}
+use Rattle.journal_lines.specs.Lines.{deed_len, first_dated, first_deed, is_inner, lines_of}
 use Rattle.journal_lines.specs.Lines.{behind_line, line_len, moment_bound, moment_line, word_of}
-use Rattle.journal_lines.specs.Spelled.{BeginsWithDeed, BeginsWithHeader, SpellsDeed, SpellsHeader}
+use Rattle.journal_lines.specs.Spelled.{BeginsWithDated, BeginsWithDeed, BeginsWithHeader}
+use Rattle.journal_lines.specs.Spelled.{SpellsDated, SpellsDeed, SpellsHeader}
 use Rattle.journal_lines.specs.declared.deed.Dated.{Dated}
 use Rattle.journal_lines.specs.declared.deed.Deed.{Deed}
 use Rattle.journal_lines.specs.declared.header.HeaderFault.TheVariants.{OtherHome}
@@ -45,18 +47,35 @@ pub record HeadersAreReadAsSpelled : Type 0 where
   pub spelled : (home : HomeData) (opened : ℕ) (text : List ℕ)
       → first_header home text ≡ Ok opened → BeginsWithHeader home opened text
 
--- What spells a deed is read as it, whatever stands behind it; and what is read as a deed is
--- spelled so.
+-- What spells a deed at a moment is read as it, whatever stands behind it; and what is read as one
+-- is spelled so.
+pub record DatedAreReadAsSpelled : Type 0 where
+  pub read : (dated : Dated) (front back : List ℕ) → SpellsDated dated front
+      → (first_dated (front ++ back) ≡ Some dated) × (dated_len (front ++ back) ≡ length front)
+  pub spelled : (dated : Dated) (text : List ℕ) → first_dated text ≡ Some dated
+      → BeginsWithDated dated text
+
+-- So is a deed of a journal.
 pub record DeedsAreReadAsSpelled : Type 0 where
   pub read : (dated : Dated) (front back : List ℕ) → SpellsDeed dated front
       → (first_deed (front ++ back) ≡ Some dated) × (deed_len (front ++ back) ≡ length front)
   pub spelled : (dated : Dated) (text : List ℕ) → first_deed text ≡ Some dated
       → BeginsWithDeed dated text
 
--- What is written of a header and of a deed spells it.
+-- Two lines without the mark, as a deed of a journal of the format 1 has them, are no deed of a
+-- journal, whatever stands behind them; and they are told as such.
+abbrev pub UnmarkedAreNoDeeds : Type 0
+UnmarkedAreNoDeeds = (dated : Dated) (front back : List ℕ) → SpellsDated dated front
+    → (first_deed (front ++ back) ≡ None) × (begins_unmarked (front ++ back) ≡ true)
+
+-- What is written of a header, of a deed at a moment, and of a deed of a journal spells it.
 abbrev pub HeadersAreSpelled : Type 0
 HeadersAreSpelled = (home : HomeData) (opened : ℕ) → IsHome home → opened < moment_bound
     → SpellsHeader home opened (header_of home opened)
+
+abbrev pub DatedAreSpelled : Type 0
+DatedAreSpelled = (moment : ℕ) (deed : Deed) → moment < moment_bound → IsReadBack deed
+    → SpellsDated (deed_at moment deed) (dated_lines moment deed)
 
 abbrev pub DeedsAreSpelled : Type 0
 DeedsAreSpelled = (moment : ℕ) (deed : Deed) → moment < moment_bound → IsReadBack deed

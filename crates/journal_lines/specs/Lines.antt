@@ -1,8 +1,9 @@
--- The two lines of a deed, and how they are read.
-use Rattle.std.specs.Prelude.{◌≡◌, ℕ, ◌+◌, ◌^◌, ◌==◌, nat_le, nat_lt, Bool, true, false, not, ◌&&◌}
+-- The lines of a deed, and how they are read.
+use Rattle.std.specs.Prelude.{◌≡◌, ℕ, ◌+◌, ◌^◌, ◌==◌, nat_eq, nat_le, nat_lt, Bool, true, false}
+use Rattle.std.specs.Prelude.{not, ◌&&◌, decimal}
 use Rattle.std.specs.Prelude.{List, [], ◌∷◌, ◌++◌, length, take, drop, codes, bytes_eq, Option}
-use Rattle.std.specs.Prelude.{Some, None, option_map, option_and_then, if◌then◌else◌, decimal}
-use Rattle.std.specs.List.{list_all, position_or_len}
+use Rattle.std.specs.Prelude.{Some, None, is_some, option_map, option_and_then, if◌then◌else◌}
+use Rattle.std.specs.List.{list_all, position_or_len, starts_with}
 use Rattle.std.specs.Option.{option_map_or}
 use Rattle.std.specs.Result.{result_ok}
 use Rattle.m2m_value.specs.Reading.{reading}
@@ -31,9 +32,18 @@ moment_line moment = 64 ∷ decimal moment
 abbrev pub ended : List ℕ → List ℕ
 ended line = line ++ 10 ∷ []
 
--- the two lines of a deed
+-- a deed at a moment as two lines, as they stand in journals and in snapshots
+abbrev pub dated_lines : ℕ → Deed → List ℕ
+dated_lines moment deed = ended (moment_line moment) ++ ended (word_of deed)
+
+-- what stands in front of each deed of a journal: `@`, the number of the format of journals, and
+-- `:`. It stands there since a journal may begin with a snapshot, which has a number of its own.
+abbrev pub deed_mark : List ℕ
+deed_mark = codes "@2:"
+
+-- the lines of a deed of a journal: the mark, and these two
 abbrev pub lines_of : ℕ → Deed → List ℕ
-lines_of moment deed = ended (moment_line moment) ++ ended (word_of deed)
+lines_of moment deed = deed_mark ++ dated_lines moment deed
 
 -- a moment has at most 18 digits
 abbrev pub moment_bound : ℕ
@@ -81,15 +91,28 @@ abbrev pub deed_in : List ℕ → List ℕ → Option Dated
 deed_in stamp word =
     option_and_then (λ moment. option_map (deed_at moment) (deed_of word)) (moment_of stamp)
 
--- the deed whose lines stand at the front of a text
-abbrev pub first_deed : List ℕ → Option Dated
-first_deed text =
+-- the deed at a moment whose two lines stand at the front of a text
+abbrev pub first_dated : List ℕ → Option Dated
+first_dated text =
     if has_line text && has_line (behind_line text)
     then deed_in (first_line text) (first_line (behind_line text)) else None
 
 -- how many bytes these lines have
+abbrev pub dated_len : List ℕ → ℕ
+dated_len text = line_len text + 1 + (line_len (behind_line text) + 1)
+
+-- the deed of a journal whose lines stand at the front of a text, and how many bytes they have
+abbrev pub first_deed : List ℕ → Option Dated
+first_deed text =
+    if starts_with nat_eq text deed_mark then first_dated (drop 3 text) else None
+
 abbrev pub deed_len : List ℕ → ℕ
-deed_len text = line_len text + 1 + (line_len (behind_line text) + 1)
+deed_len text = 3 + dated_len (drop 3 text)
+
+-- A deed of a journal of the format 1 begins a text: it has no mark, so that the first line is its
+-- moment.
+abbrev pub begins_unmarked : List ℕ → Bool
+begins_unmarked text = is_some (moment_of (first_line text))
 
 -- ---- what holds of both
 

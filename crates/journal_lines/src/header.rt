@@ -13,8 +13,8 @@ use m2m_value::{MemberKey, Scratch, Text, Val, ValFault, read_in};
 use resource_model::Home;
 use std::alloc::{AllocError as OutOfMemory, Global};
 
-/// The number of the format.
-const FORMAT: u64 = 1;
+/// The number of the format of journals. It rises with each change of what the machine gives.
+const FORMAT: u64 = 2;
 
 /// A reading is below this number.
 const READING_BOUND: u64 = 1_000_000_000_000_000_000;

@@ -87,15 +87,15 @@ fn deed_in(
     }
 }
 
-/// The deed whose lines stand at the front of a text, if any stands there, and how many bytes they
-/// have.
-pub fn first_deed(
+/// The deed at a moment whose two lines stand at the front of a text, if any stands there, and how
+/// many bytes they have.
+pub fn first_dated(
     alloc: Global,
     scratch: &mut Scratch,
     text: &[u8],
 ) -> Result<Option<(Dated, usize)>, OutOfMemory>
-    ensures deed { IfOk result (λ found. option_map (λ f. f.0) found ≡ spec.first_deed text.now) }
-    ensures len { IfOk result (λ found. IfSome found (λ f. f.1 ≡ spec.deed_len text.now)) }
+    ensures deed { IfOk result (λ found. option_map (λ f. f.0) found ≡ spec.first_dated text.now) }
+    ensures len { IfOk result (λ found. IfSome found (λ f. f.1 ≡ spec.dated_len text.now)) }
     ensures within { IfOk result (λ found. IfSome found (λ f. f.1 ≤ length text.now)) }
 {
     let end = line_len(text);
@@ -111,4 +111,31 @@ pub fn first_deed(
         Some(dated) => Ok(Some((dated, end + 1 + (len + 1)))),
         None => Ok(None),
     }
+}
+
+/// The deed of a journal whose lines stand at the front of a text, if any stands there, and how
+/// many bytes they have.
+pub fn first_deed(
+    alloc: Global,
+    scratch: &mut Scratch,
+    text: &[u8],
+) -> Result<Option<(Dated, usize)>, OutOfMemory>
+    ensures deed { IfOk result (λ found. option_map (λ f. f.0) found ≡ spec.first_deed text.now) }
+    ensures len { IfOk result (λ found. IfSome found (λ f. f.1 ≡ spec.deed_len text.now)) }
+    ensures within { IfOk result (λ found. IfSome found (λ f. f.1 ≤ length text.now)) }
+{
+    if !text.starts_with(b"@2:") {
+        return Ok(None);
+    }
+    match first_dated(alloc, scratch, &text[3..])? {
+        Some((dated, len)) => Ok(Some((dated, 3 + len))),
+        None => Ok(None),
+    }
+}
+
+/// Whether a deed of a journal of the format 1 begins a text: it has no mark.
+pub fn begins_unmarked(text: &[u8]) -> bool
+    ensures { result ≡ spec.begins_unmarked text.now }
+{
+    moment_of(&text[..line_len(text)]).is_some()
 }

@@ -86,37 +86,81 @@ fn push_both(text: &mut Vec<u8>, moment: u64, value: &Val) -> Result<(), OutOfMe
     push_value(text, value)
 }
 
-/// The two lines of a word.
+/// The mark and the two lines of a word.
 fn push_words(text: &mut Vec<u8>, moment: u64, word: &[u8]) -> Result<(), OutOfMemory>
     requires { moment < spec.moment_bound }
-    ensures { OnOk result (text.new.items ≡ text.old.items
-        ++ (spec.ended (spec.moment_line moment) ++ spec.ended word.now)) }
+    ensures { OnOk result (text.new.items ≡ text.old.items ++ (spec.deed_mark
+        ++ (spec.ended (spec.moment_line moment) ++ spec.ended word.now))) }
 {
+    text.extend_from_slice(b"@2:")?;
     push_moment(text, moment)?;
     push_word(text, word)
 }
 
-/// Appends the lines of a value, or leaves the text as it was.
+/// Appends a mark and the lines of a value, or leaves the text as it was.
 fn push_lines(
     alloc: Global,
     text: &mut Vec<u8>,
+    mark: &[u8],
     moment: u64,
     value: &Val,
 ) -> Result<(), OutOfMemory>
     requires { moment < spec.moment_bound }
-    ensures written { OnOk result (text.new.items ≡ text.old.items
-        ++ (spec.ended (spec.moment_line moment) ++ spec.ended (text_of value.now))) }
+    ensures written { OnOk result (text.new.items ≡ text.old.items ++ (mark.now
+        ++ (spec.ended (spec.moment_line moment) ++ spec.ended (text_of value.now)))) }
     ensures reads_back { OnOk result (depth value.now ≤ reading_depth
         → reading (text_of value.now) ≡ Ok value.now) }
     ensures err { OnErr result (text.new.items ≡ text.old.items) }
 {
-    let mut line = Vec::new(alloc);
+    let mut line = Vec::from_slice(alloc, mark)?;
     push_both(&mut line, moment, value)?;
     text.extend_from_slice(&line)
 }
 
-/// Appends the lines of a request that was answered, or leaves the text as it was. What is written
-/// is read back as the request.
+/// Appends a mark and the two lines of a request.
+fn push_marked(
+    alloc: Global,
+    text: &mut Vec<u8>,
+    mark: &[u8],
+    moment: u64,
+    request: &Request,
+) -> Result<(), LineFault>
+    requires { moment < spec.moment_bound }
+    ensures written { OnOk result (text.new.items
+        ≡ text.old.items ++ (mark.now ++ spec.dated_lines moment (Ask request.now))) }
+    ensures reads_back { OnOk result (IsReadBack (Ask request.now)) }
+    ensures err { OnErr result (text.new.items ≡ text.old.items) }
+    ensures unkept { IsErrOf result LineFault.Unkept → keeping.can_be_kept request.now ≡ false }
+    ensures kept { OnOk result (keeping.can_be_kept request.now ≡ true) }
+{
+    let Some(value) = kept_value(alloc, request)? else {
+        return Err(LineFault::Unkept);
+    };
+    push_lines(alloc, text, mark, moment, &value)?;
+    Ok(())
+}
+
+/// Appends the two lines of a request at a moment, or leaves the text as it was. What is written is
+/// read back as the request.
+pub fn push_dated(
+    alloc: Global,
+    text: &mut Vec<u8>,
+    moment: u64,
+    request: &Request,
+) -> Result<(), LineFault>
+    requires { moment < spec.moment_bound }
+    ensures written { OnOk result
+        (text.new.items ≡ text.old.items ++ spec.dated_lines moment (Ask request.now)) }
+    ensures reads_back { OnOk result (IsReadBack (Ask request.now)) }
+    ensures err { OnErr result (text.new.items ≡ text.old.items) }
+    ensures unkept { IsErrOf result LineFault.Unkept → keeping.can_be_kept request.now ≡ false }
+    ensures kept { OnOk result (keeping.can_be_kept request.now ≡ true) }
+{
+    push_marked(alloc, text, b"", moment, request)
+}
+
+/// Appends the lines of a request that was answered, as a deed of a journal, or leaves the text as
+/// it was. What is written is read back as the request.
 pub fn push_request(
     alloc: Global,
     text: &mut Vec<u8>,
@@ -131,11 +175,7 @@ pub fn push_request(
     ensures unkept { IsErrOf result LineFault.Unkept → keeping.can_be_kept request.now ≡ false }
     ensures kept { OnOk result (keeping.can_be_kept request.now ≡ true) }
 {
-    let Some(value) = kept_value(alloc, request)? else {
-        return Err(LineFault::Unkept);
-    };
-    push_lines(alloc, text, moment, &value)?;
-    Ok(())
+    push_marked(alloc, text, b"@2:", moment, request)
 }
 
 /// Appends the lines of the taking of an item, or leaves the text as it was.

@@ -1,5 +1,5 @@
 -- What deeds make, and how a journal grows.
-use Rattle.std.proofs.Common.{◌≡◌, ℕ, ◌<◌, List, [], ◌∷◌, ◌++◌, true, decimal, inl, inr, refl, sym, ap, ◌∙◌, subst, append_assoc}
+use Rattle.std.proofs.Common.{◌≡◌, ℕ, ◌<◌, List, [], ◌∷◌, ◌++◌, true, inl, inr, refl, sym, ap, ◌∙◌, subst, append_assoc}
 use Rattle.std.proofs.lemmas.List.{append-nil}
 use Rattle.turn_desk.specs.declared.entry.Entry.{Entry}
 use Rattle.primitive_json.specs.declared.request.RequestParts.{RequestParts}
@@ -17,7 +17,7 @@ use Rattle.journal_lines.proofs.HeaderLemmas.{headers_spelled}
 use Rattle.journal_lines.proofs.LineLemmas.{deeds_spelled}
 use Rattle.journal_lines.specs.Header.{header_of}
 use Rattle.journal_file.specs.Gates.{is_batch}
-use Rattle.journal_lines.specs.Lines.{IsReadBack, deed_at, ended, lines_of, moment_bound, word_of}
+use Rattle.journal_lines.specs.Lines.{IsReadBack, deed_at, lines_of, moment_bound}
 use Rattle.journal_lines.specs.Spelled.{SpellsDeed, SpellsDeeds}
 use Rattle.journal_lines.specs.declared.deed.Dated.{Dated}
 use Rattle.journal_lines.specs.declared.deed.Deed.{Deed}
@@ -124,16 +124,8 @@ journal_grows home base deeds text moment d journal short back =
 
 -- ---- the lines of a deed are a batch
 
-batch_at : (digits word more : List ℕ) → is_batch ((ended (64 ∷ digits) ++ ended word) ++ more) ≡ true
-batch_at [] word more = refl
-batch_at (c ∷ digits) word more = refl
-
 pub deed_is_batch : (moment : ℕ) (d : Deed) (more : List ℕ) → is_batch (lines_of moment d ++ more) ≡ true
-deed_is_batch moment d more = batch_at (decimal moment) (word_of d) more
-
-batch_alone : (digits word : List ℕ) → is_batch (ended (64 ∷ digits) ++ ended word) ≡ true
-batch_alone [] word = refl
-batch_alone (c ∷ digits) word = refl
+deed_is_batch moment d more = refl
 
 pub deed_alone_is_batch : (moment : ℕ) (d : Deed) → is_batch (lines_of moment d) ≡ true
-deed_alone_is_batch moment d = batch_alone (decimal moment) (word_of d)
+deed_alone_is_batch moment d = refl

@@ -1,5 +1,6 @@
 -- How far the lines of a journal are played.
-use Rattle.std.proofs.Common.{◌≡◌, ℕ, ◌+◌, ◌-◌, ◌<◌, ◌≤◌, true, false, List, [], ◌∷◌, ◌++◌, length, take, drop, Option, Some, None, IfSome, Ok, Err, ⊎_elim, ◌⊎◌, inl, inr, refl, sym, ap, ◌∙◌, subst, arith, append_assoc, length-append, length-drop, take-append-drop}
+use Rattle.std.proofs.Common.{◌≡◌, ℕ, ◌+◌, ◌-◌, ◌<◌, ◌≤◌, Bool, true, false, if◌then◌else◌, List, [], ◌∷◌, ◌++◌, length, take, drop, Option, Some, None, IfSome, Ok, Err, ⊎_elim, ◌⊎◌, inl, inr, refl, sym, ap, ◌∙◌, subst, arith, append_assoc, length-append, length-drop, take-append-drop}
+use Rattle.std.proofs.lemmas.Bool.{cases_Bool}
 use Rattle.std.proofs.lemmas.List.{append-nil, drop-drop, drop_at, length-take-le, take_at, take_rest}
 use Rattle.resource_model.specs.Home.{HomeData}
 use Rattle.entity_model.specs.Entity.{EntityData}
@@ -7,7 +8,7 @@ use Rattle.entity_model.specs.Opening.{opening}
 use Rattle.journal_file.specs.Gates.{is_shut}
 use Rattle.journal_lines.proofs.SpelledLemmas.{deed_begins, header_begins}
 use Rattle.journal_lines.specs.Header.{first_header}
-use Rattle.journal_lines.specs.Lines.{deed_len, first_deed, line_len}
+use Rattle.journal_lines.specs.Lines.{begins_unmarked, deed_len, first_deed, line_len}
 use Rattle.journal_lines.specs.Spelled.{SpellsDeeds, SpellsHeader}
 use Rattle.journal_lines.specs.declared.deed.Dated.{Dated}
 use Rattle.journal_opening.proofs.JournalLemmas.{made_join, spells_join}
@@ -20,9 +21,9 @@ use Rattle.entity_snapshot.specs.Snapshots.{SpellsEntity}
 use Rattle.entity_snapshot.specs.declared.fault.SnapshotFault.{SnapshotFault}
 use Rattle.entity_snapshot.specs.declared.fault.SnapshotFault.TheVariants as snapshot
 use Rattle.journal_opening.specs.Opening.{BeginsAs, HaltsBeginning, IsOfMachine, IsRefused, OpensAs, StopsAt, opening_fault, snapshot_fault}
-use Rattle.journal_opening.specs.Playing.{HaltsAt, HaltsPlaying, Plays, PlaysFirst, ReadsUpTo}
+use Rattle.journal_opening.specs.Playing.{HaltsAt, HaltsPlaying, Plays, PlaysFirst, ReadsUpTo, fault_at}
 use Rattle.journal_opening.specs.declared.fault.OpeningFault.{OpeningFault}
-use Rattle.journal_opening.specs.declared.fault.OpeningFault.TheVariants.{NoHeader, OtherFormat, OtherHome, BadSnapshot, Unsound, BadLine, Failed, OutOfMemory}
+use Rattle.journal_opening.specs.declared.fault.OpeningFault.TheVariants.{NoHeader, OtherFormat, OtherHome, BadSnapshot, Unsound, BadLine, OldDeed, Failed, OutOfMemory}
 
 -- ---- deeds, one after another
 
@@ -95,6 +96,20 @@ plays_within bytes from at before after plays = plays.reads.within
 pub halts_at : (bytes : List ℕ) (from at : ℕ) (before after : EntityData) → Plays bytes from at before after → is_shut (drop at bytes) ≡ false
     → first_deed (drop at bytes) ≡ None → HaltsAt bytes from at
 halts_at bytes from at before after plays counts none = record { deeds = plays.deeds; reads = plays.reads; counts = counts; none = none }
+
+-- it is told as what stands there
+pub halts_by : (bytes : List ℕ) (from at : ℕ) (fault : OpeningFault) → HaltsAt bytes from at → fault ≡ fault_at bytes at → HaltsPlaying bytes from fault
+halts_by bytes from at fault halts is =
+    let number = line_number bytes at in
+    let at_unmarked : Bool → OpeningFault = λ b. if b then OldDeed number else BadLine number in
+    elim (cases_Bool (begins_unmarked (drop at bytes))) [
+      | inl old ↦
+          let same : fault_at bytes at ≡ OldDeed number = ap at_unmarked old in
+          subst (HaltsPlaying bytes from) (sym (is ∙ same)) (at, halts, sym same)
+      | inr none ↦
+          let same : fault_at bytes at ≡ BadLine number = ap at_unmarked none in
+          subst (HaltsPlaying bytes from) (sym (is ∙ same)) (at, halts, sym same)
+    ]
 
 -- ---- behind the header
 
@@ -186,6 +201,7 @@ refused_first home bytes OtherHome said = said
 refused_first home bytes (BadSnapshot number) said = said
 refused_first home bytes Unsound said = said
 refused_first home bytes (BadLine number) said = absurd said
+refused_first home bytes (OldDeed number) said = absurd said
 refused_first home bytes Failed said = tt
 refused_first home bytes OutOfMemory said = tt
 
@@ -197,6 +213,7 @@ refused_then home bytes from base OtherHome begins said = absurd said
 refused_then home bytes from base (BadSnapshot number) begins said = absurd said
 refused_then home bytes from base Unsound begins said = absurd said
 refused_then home bytes from base (BadLine number) begins (at, halts, is) = (at, stops_at home bytes from at base begins halts, is)
+refused_then home bytes from base (OldDeed number) begins (at, halts, is) = (at, stops_at home bytes from at base begins halts, is)
 refused_then home bytes from base Failed begins said = tt
 refused_then home bytes from base OutOfMemory begins said = tt
 
@@ -207,6 +224,7 @@ refused_by_machine home bytes OtherHome said = absurd said
 refused_by_machine home bytes (BadSnapshot number) said = absurd said
 refused_by_machine home bytes Unsound said = absurd said
 refused_by_machine home bytes (BadLine number) said = absurd said
+refused_by_machine home bytes (OldDeed number) said = absurd said
 refused_by_machine home bytes Failed said = tt
 refused_by_machine home bytes OutOfMemory said = tt
 

@@ -1,6 +1,5 @@
 -- Bytes are read as one journal alone.
-use Rattle.std.proofs.Common.{◌≡◌, ℕ, ◌+◌, ◌==◌, ◌≤◌, List, [], ◌∷◌, ◌++◌, length, take, drop, Bool, true, false, not, Option, Some, None, option_and_then, option_map, Result, Ok, Err, if◌then◌else◌, inl, inr, refl, sym, ap, ◌∙◌, subst, arith, append_assoc, length-append, take-append-drop, true≢false}
-use Rattle.std.proofs.lemmas.Bool.{cases_Bool}
+use Rattle.std.proofs.Common.{◌≡◌, ℕ, ◌+◌, ◌≤◌, List, [], ◌∷◌, ◌++◌, length, take, drop, Bool, true, false, Option, Some, None, Result, Ok, Err, inl, inr, refl, sym, ap, ◌∙◌, subst, arith, append_assoc, length-append, take-append-drop, true≢false}
 use Rattle.std.proofs.lemmas.List.{drop_at, length-take-le, take_at}
 use Rattle.resource_model.specs.Home.{HomeData}
 use Rattle.entity_model.specs.Entity.{EntityData}
@@ -8,8 +7,7 @@ use Rattle.entity_model.specs.Opening.{opening}
 use Rattle.journal_file.specs.Gates.{KeepsText, is_shut}
 use Rattle.journal_lines.proofs.SpelledLemmas.{deed_read, header_read}
 use Rattle.journal_lines.specs.Header.{first_header}
-use Rattle.journal_lines.specs.Lines.{deed_at, deed_in, deed_len, deed_of, ended, first_deed, line_len}
-use Rattle.primitive_json.specs.Kinds.{number_spelled}
+use Rattle.journal_lines.specs.Lines.{deed_len, first_deed, line_len}
 use Rattle.journal_lines.specs.Spelled.{SpellsDeed, SpellsDeeds}
 use Rattle.journal_lines.specs.declared.deed.Dated.{Dated}
 use Rattle.journal_lines.specs.declared.header.HeaderFault.{HeaderFault}
@@ -25,28 +23,15 @@ use Rattle.entity_snapshot.specs.declared.fault.SnapshotFault.{SnapshotFault}
 use Rattle.entity_snapshot.specs.declared.fault.SnapshotFault.TheVariants as snapshot
 use Rattle.journal_opening.specs.Opening.{IsNoSnapshot, IsOfMachine, IsRefused, OpensAs, StopsAt}
 use Rattle.journal_opening.specs.declared.fault.OpeningFault.{OpeningFault}
-use Rattle.journal_opening.specs.declared.fault.OpeningFault.TheVariants.{NoHeader, OtherFormat, OtherHome, BadSnapshot, Unsound, BadLine, Failed, OutOfMemory}
+use Rattle.journal_opening.specs.declared.fault.OpeningFault.TheVariants.{NoHeader, OtherFormat, OtherHome, BadSnapshot, Unsound, BadLine, OldDeed, Failed, OutOfMemory}
 
 -- ---- a deed stands behind an open gate
 
 none_some : {A B : Type 0} (x : A) → None ≡ Some x → B
 none_some x e = absurd cc
 
-open_at : (b : ℕ) (digits word back : List ℕ) → b == 64 ≡ true → is_shut ((ended (b ∷ digits) ++ ended word) ++ back) ≡ false
-open_at b [] word back is = ap not is
-open_at b (c ∷ digits) word back is = ap not is
-
-open_stamp : (stamp word back : List ℕ) (dated : Dated) → deed_in stamp word ≡ Some dated → is_shut ((ended stamp ++ ended word) ++ back) ≡ false
-open_stamp [] word back dated means = none_some dated means
-open_stamp (b ∷ digits) word back dated means = elim (cases_Bool (b == 64)) [
-  | inl is ↦ open_at b digits word back is
-  | inr other ↦
-      none_some dated (sym (ap (λ t. option_and_then (λ moment. option_map (deed_at moment) (deed_of word)) (if t then number_spelled digits else None)) other) ∙ means)
-]
-
 open_front : (dated : Dated) (front back : List ℕ) → SpellsDeed dated front → is_shut (front ++ back) ≡ false
-open_front dated front back spells =
-    ap (λ (l : List ℕ). is_shut (l ++ back)) spells.split ∙ open_stamp spells.stamp spells.word back dated spells.means
+open_front dated front back spells = ap (λ (l : List ℕ). is_shut (l ++ back)) spells.split
 
 not_shut : {B : Type 0} (dated : Dated) (front back bytes : List ℕ) → SpellsDeed dated front → bytes ≡ front ++ back → is_shut bytes ≡ true → B
 not_shut dated front back bytes spells is shut = absurd (true≢false (sym shut ∙ ap is_shut is ∙ open_front dated front back spells))
@@ -256,6 +241,7 @@ module _ (home : HomeData) (base : EntityData) (deeds : List Dated) (text bytes 
   refused (BadSnapshot number) none = (let is : snapshot.BadLine number ≡ snapshot.OutOfMemory = snapshot_there (snapshot.BadLine number) none in cc)
   refused Unsound none = (let is : snapshot.Unsound ≡ snapshot.OutOfMemory = snapshot_there snapshot.Unsound none in cc)
   refused (BadLine number) (place, stops, is) = none_stuck stops.base stops.deeds place stops.journal stops.counts stops.none
+  refused (OldDeed number) (place, stops, is) = none_stuck stops.base stops.deeds place stops.journal stops.counts stops.none
   refused Failed said = tt
   refused OutOfMemory said = tt
 

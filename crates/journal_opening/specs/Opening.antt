@@ -12,14 +12,15 @@ use Rattle.journal_lines.specs.declared.deed.Dated.{Dated}
 use Rattle.journal_lines.specs.declared.header.HeaderFault.TheVariants as header
 use Rattle.journal_lines.specs.declared.header.HeaderFault.{HeaderFault}
 use Rattle.entity_snapshot.specs.Opening.{IsUnopened}
-use Rattle.entity_snapshot.specs.Reading.{line_number}
 use Rattle.entity_snapshot.specs.declared.fault.SnapshotFault.TheVariants as snapshot
 use Rattle.entity_snapshot.specs.declared.fault.SnapshotFault.{SnapshotFault}
 use Rattle.journal_opening.specs.Journals.{IsJournalOf, Makes, SpellsOpening}
+use Rattle.journal_opening.specs.Playing.{fault_at}
 use Rattle.journal_opening.specs.declared.fault.OpeningFault.{OpeningFault}
 use Rattle.journal_opening.specs.declared.fault.OpeningFault.TheVariants.{NoHeader, OtherFormat}
 use Rattle.journal_opening.specs.declared.fault.OpeningFault.TheVariants.{OtherHome, BadLine}
 use Rattle.journal_opening.specs.declared.fault.OpeningFault.TheVariants.{BadSnapshot, Unsound}
+use Rattle.journal_opening.specs.declared.fault.OpeningFault.TheVariants.{OldDeed}
 use Rattle.journal_opening.specs.declared.fault.OpeningFault.TheVariants.{Failed, OutOfMemory}
 
 -- The bytes are those of a file that keeps a text of so many bytes, which makes this entity.
@@ -54,7 +55,9 @@ IsRefused home bytes OtherHome = (first_header home bytes ≡ Err header.OtherHo
 IsRefused home bytes (BadSnapshot number) = IsNoSnapshot home bytes (snapshot.BadLine number)
 IsRefused home bytes Unsound = IsNoSnapshot home bytes snapshot.Unsound
 IsRefused home bytes (BadLine number) =
-    (place : ℕ) × StopsAt home bytes place × (number ≡ line_number bytes place)
+    (place : ℕ) × StopsAt home bytes place × (BadLine number ≡ fault_at bytes place)
+IsRefused home bytes (OldDeed number) =
+    (place : ℕ) × StopsAt home bytes place × (OldDeed number ≡ fault_at bytes place)
 IsRefused home bytes Failed = ⊤
 IsRefused home bytes OutOfMemory = ⊤
 
@@ -66,6 +69,7 @@ IsOfMachine OtherHome = ⊥
 IsOfMachine (BadSnapshot number) = ⊥
 IsOfMachine Unsound = ⊥
 IsOfMachine (BadLine number) = ⊥
+IsOfMachine (OldDeed number) = ⊥
 IsOfMachine Failed = ⊤
 IsOfMachine OutOfMemory = ⊤
 
@@ -104,6 +108,7 @@ HaltsBeginning home bytes OtherHome = (first_header home bytes ≡ Err header.Ot
 HaltsBeginning home bytes (BadSnapshot number) = IsNoSnapshot home bytes (snapshot.BadLine number)
 HaltsBeginning home bytes Unsound = IsNoSnapshot home bytes snapshot.Unsound
 HaltsBeginning home bytes (BadLine number) = ⊥
+HaltsBeginning home bytes (OldDeed number) = ⊥
 HaltsBeginning home bytes Failed = ⊥
 HaltsBeginning home bytes OutOfMemory = ⊤
 

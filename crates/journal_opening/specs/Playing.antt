@@ -1,8 +1,9 @@
 -- How far the lines of a journal are played.
 use Rattle.std.specs.Prelude.{◌≡◌, ℕ, ◌+◌, ◌≤◌, false, List, ◌++◌, length, drop, Some, None, ⊤}
+use Rattle.std.specs.Prelude.{if◌then◌else◌}
 use Rattle.entity_model.specs.Entity.{EntityData}
 use Rattle.journal_file.specs.Gates.{is_shut}
-use Rattle.journal_lines.specs.Lines.{deed_len, first_deed}
+use Rattle.journal_lines.specs.Lines.{begins_unmarked, deed_len, first_deed}
 use Rattle.journal_lines.specs.Spelled.{SpellsDeeds}
 use Rattle.journal_lines.specs.declared.deed.Dated.{Dated}
 use Rattle.journal_opening.specs.Journals.{made_by, made_of}
@@ -11,6 +12,7 @@ use Rattle.journal_opening.specs.declared.fault.OpeningFault.{OpeningFault}
 use Rattle.journal_opening.specs.declared.fault.OpeningFault.TheVariants.{NoHeader, OtherFormat}
 use Rattle.journal_opening.specs.declared.fault.OpeningFault.TheVariants.{OtherHome, BadLine}
 use Rattle.journal_opening.specs.declared.fault.OpeningFault.TheVariants.{BadSnapshot, Unsound}
+use Rattle.journal_opening.specs.declared.fault.OpeningFault.TheVariants.{OldDeed}
 use Rattle.journal_opening.specs.declared.fault.OpeningFault.TheVariants.{Failed, OutOfMemory}
 
 -- The bytes between two places are the lines of these deeds.
@@ -43,6 +45,12 @@ pub record HaltsAt (bytes : List ℕ) (from at : ℕ) : Type 0 where
   pub counts : is_shut (drop at bytes) ≡ false
   pub none : first_deed (drop at bytes) ≡ None
 
+-- why no deed begins at a place: a program of the format 1 has written it, or it is none
+abbrev pub fault_at : List ℕ → ℕ → OpeningFault
+fault_at bytes place =
+    if begins_unmarked (drop place bytes) then OldDeed (line_number bytes place)
+    else BadLine (line_number bytes place)
+
 -- why the lines from a place on aren't played to their end
 abbrev pub HaltsPlaying : List ℕ → ℕ → OpeningFault → Type 0
 HaltsPlaying bytes from NoHeader = ⊥
@@ -51,6 +59,8 @@ HaltsPlaying bytes from OtherHome = ⊥
 HaltsPlaying bytes from (BadSnapshot number) = ⊥
 HaltsPlaying bytes from Unsound = ⊥
 HaltsPlaying bytes from (BadLine number) =
-    (at : ℕ) × HaltsAt bytes from at × (number ≡ line_number bytes at)
+    (at : ℕ) × HaltsAt bytes from at × (BadLine number ≡ fault_at bytes at)
+HaltsPlaying bytes from (OldDeed number) =
+    (at : ℕ) × HaltsAt bytes from at × (OldDeed number ≡ fault_at bytes at)
 HaltsPlaying bytes from Failed = ⊥
 HaltsPlaying bytes from OutOfMemory = ⊤

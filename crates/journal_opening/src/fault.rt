@@ -20,6 +20,9 @@ pub enum OpeningFault {
     Unsound,
     /// At the line of this number, from 1, no deed begins, but the journal goes on.
     BadLine(usize),
+    /// At the line of this number, from 1, a deed begins that an older program has written, in the
+    /// format 1.
+    OldDeed(usize),
     /// The file failed: its count of faults rose in the call.
     Failed,
     /// Memory ran out.

@@ -3,8 +3,9 @@
 //! `play_back` reads a file of which contracts see what a crash may leave, and does again what its
 //! lines say, each deed by the machine's step at its own moment. Callers get the entity that the
 //! deeds make, and the file ready for what is done next (specs/Journals). A journal of another home
-//! or of another format, and one with a line that is no deed, is refused; its file then has each
-//! byte that it had. Opening may be cut off at any moment: the file keeps the same journal.
+//! or of another format, and one with a line that is no deed or a deed of the format 1, is refused;
+//! its file then has each byte that it had. Opening may be cut off at any moment: the file keeps
+//! the same journal.
 //!
 //! A journal begins with a header, and with the entity of a home that opens; or it begins with the
 //! snapshot of an entity of that home, which whoever replaced it by a shorter one has written. The

@@ -5,12 +5,12 @@ ghost use Rattle.journal_file.specs.Gates as gates;
 ghost use Rattle.journal_lines.specs.Lines.{first_deed};
 ghost use Rattle.journal_opening.specs.Journals as spec;
 ghost use Rattle.entity_snapshot.specs.Reading.{line_number};
-ghost use Rattle.journal_opening.specs.Playing.{HaltsPlaying, Plays, PlaysFirst};
+ghost use Rattle.journal_opening.specs.Playing.{HaltsPlaying, Plays, PlaysFirst, fault_at};
 
 use crate::fault::OpeningFault;
 use cse_machine::{Event, Outcome, step};
 use entity_model::Entity;
-use journal_lines::{Dated, Deed, first_deed};
+use journal_lines::{Dated, Deed, begins_unmarked, first_deed};
 use m2m_value::Scratch;
 use std::alloc::{AllocError as OutOfMemory, Global};
 use tree_model::Tree;
@@ -84,6 +84,19 @@ pub(crate) fn line_number(bytes: &[u8], place: usize) -> usize
     ends_in(&bytes[..place]) + 1
 }
 
+/// Why no deed begins at a place.
+fn fault_at(bytes: &[u8], place: usize) -> OpeningFault
+    requires { place < length bytes.now }
+    ensures { result ≡ fault_at bytes.now place }
+{
+    let number = line_number(bytes, place);
+    if begins_unmarked(&bytes[place..]) {
+        OpeningFault::OldDeed(number)
+    } else {
+        OpeningFault::BadLine(number)
+    }
+}
+
 /// Does what the lines say that stand in the bytes from a place on, until the text ends; and tells
 /// the place where it ends.
 pub(crate) fn play_lines<T: Tree>(
@@ -101,7 +114,7 @@ pub(crate) fn play_lines<T: Tree>(
     let mut at = from;
     'deeds: while !is_shut(&bytes[at..]) {
         let Some(len) = play_first(alloc, scratch, entity, &bytes[at..])? else {
-            return Err(OpeningFault::BadLine(line_number(bytes, at)));
+            return Err(fault_at(bytes, at));
         };
         at += len;
     }

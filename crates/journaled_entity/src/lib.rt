@@ -6,8 +6,8 @@
 //! the journal makes is that entity at the same moment or an earlier one (specs/Keeping).
 //!
 //! What may have changed something more than an expiry does is written down as itself, at the
-//! moment that the entity has after it: what was served and is no Retrieve, and what took an item of
-//! the outbox, as the machine tells (specs/Changes). An expiry by which resources or items came
+//! moment that the entity has after it: what was served and is no Retrieve, and what took an item
+//! of the outbox, as the machine tells (specs/Changes). An expiry by which resources or items came
 //! or went is written down as such. Nothing else is written. A request that wouldn't be read back
 //! as it is isn't done, and is answered as one for which memory ran out. `open_kept` opens an
 //! entity at its journal, as an object that is kept in it; a file that is refused is given back.

@@ -18,8 +18,8 @@ fn is_made_ready(request: &Request) -> bool {
     !retrieves(request.parts().op) || matches!(request.parts().to.entries(), [.., b'p', b'c', b'u'])
 }
 
-/// Appends the lines of a request, where they are made ready. One that has form and can't be kept is
-/// a fault.
+/// Appends the lines of a request, where they are made ready. One that has form and can't be kept
+/// is a fault.
 fn push_ask(
     alloc: Global,
     lines: &mut Vec<u8>,

@@ -76,7 +76,8 @@ fn advance<T: Tree>(
     event: &Event,
 ) -> (ObservedStep, bool)
     ensures step { Step reading event.now entity.old result.0.outcome entity.new }
-    ensures took { result.0.took ≡ steps.took (swept reading entity.old) result.0.outcome entity.new }
+    ensures took { result.0.took
+        ≡ steps.took (swept reading entity.old) result.0.outcome entity.new }
     ensures differs { result.1 ≡ differs entity.old entity.new }
     ensures sound { IsSoundEntity entity.old }
 {
@@ -148,7 +149,8 @@ impl<T: Tree> Journaled<T> {
     /// Takes a step of the machine, and tells whether resources or items came or went by it.
     fn advance(&mut self, reading: u64, event: &Event) -> (ObservedStep, bool)
         ensures step { Step reading event.now self.old result.0.outcome self.new }
-        ensures took { result.0.took ≡ steps.took (swept reading self.old) result.0.outcome self.new }
+        ensures took { result.0.took
+            ≡ steps.took (swept reading self.old) result.0.outcome self.new }
         ensures differs { result.1 ≡ differs self.old self.new }
         ensures sound { IsSoundEntity self.old }
     {
