@@ -1,7 +1,7 @@
 //! What the program says of itself.
 
 /// The version of the program.
-pub const VERSION: &str = "0.8";
+pub const VERSION: &str = "0.9";
 
 /// What the commands and their options are.
 pub const HELP: &str = "\
@@ -23,7 +23,8 @@ options of http, serve, replay, twin and snapshot, each at most once
   --id NAME      the CSE-ID without its slash; id-in if not said
   --base NAME    the name of the CSEBase; cse-in if not said
   --sp NAME      the service provider; sp.example if not said
-  --admin NAME   the administrator, who may do everything; CAdmin if not said
+  --admin NAME   the administrator, who may do everything on the CSEBase; CAdmin
+                 if not said
   --type NUMBER  the CSE type: 1 for an infrastructure node, 2 for a middle
                  node, 3 for an application service node; 1 if not said
 

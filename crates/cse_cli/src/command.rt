@@ -19,6 +19,7 @@ use command_words::{Command, Task, read_command};
 use cse_server::Bench;
 use m2m_io::{Clock, Door, Link, Sink, Source, Status};
 use made_input::generate;
+use service_observer::{ItemObserver, ReplyObserver};
 use std::alloc::Global;
 use std::sync::Wait;
 use std::thread::Threads;
@@ -26,7 +27,14 @@ use std::time;
 
 /// Does a command that was read, and answers with the status and the door. The devices are those of
 /// `run`. Nobody is told how it ended.
-pub fn run_command<R, S: Source, O: Sink, D: Door + Send, C: Clock + Send, L: Link + Send>(
+pub fn run_command<
+    R,
+    S: Source,
+    O: Sink,
+    D: Door + Send,
+    C: Clock + Send,
+    L: Link + ItemObserver + Send,
+>(
     rt: &R,
     alloc: Global,
     command: Command,
@@ -38,6 +46,7 @@ pub fn run_command<R, S: Source, O: Sink, D: Door + Send, C: Clock + Send, L: Li
 where
     R: Wait + Threads + time::Clock + Clone + Drop + Sync,
     C: Drop,
+    D::Conn: ReplyObserver,
     L: Drop,
     ensures { let devices = devices_by S.left S.faults O.written O.puts O.faults C.readings
         (link_tells L.exchanges L.faults) (door_tells D.opened D.given D.ended D.faults) in
@@ -79,7 +88,15 @@ pub fn told<E: Sink, X>(err: &mut E, ended: (Status, X)) -> (Status, X)
 /// these prepare, `serve` opens the door and serves its connections, each by a worker, and `gen`
 /// makes so many requests and writes a line on what they are answered. The options say the home of
 /// the entities, and at `serve` where the door is opened and how many connections are accepted.
-pub fn run<R, S: Source, O: Sink, E: Sink, D: Door + Send, C: Clock + Send, L: Link + Send>(
+pub fn run<
+    R,
+    S: Source,
+    O: Sink,
+    E: Sink,
+    D: Door + Send,
+    C: Clock + Send,
+    L: Link + ItemObserver + Send,
+>(
     rt: &R,
     alloc: Global,
     words: &[&str],
@@ -93,6 +110,7 @@ pub fn run<R, S: Source, O: Sink, E: Sink, D: Door + Send, C: Clock + Send, L: L
 where
     R: Wait + Threads + time::Clock + Clone + Drop + Sync + Send,
     C: Drop,
+    D::Conn: ReplyObserver,
     L: Drop,
     requires benches { 2 ≤ vec_len benches }
 

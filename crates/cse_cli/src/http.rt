@@ -1,5 +1,5 @@
 //! The command `http`.
-ghost use Rattle.std.specs.Prelude.{◌≡◌, ◌≢◌, ◌↔◌, ◌⊎◌, ◌≤◌, ℕ, IfOk, List, Option};
+ghost use Rattle.std.specs.Prelude.{◌≡◌, ◌≢◌, ◌↔◌, ◌⊎◌, ℕ, IfOk, List, Option};
 ghost use Rattle.cse_server.specs.Outside.{EndsByFault, SinkTold, link_told, outside};
 ghost use Rattle.cse_server.specs.Outside.{sink_told};
 ghost use Rattle.entity_model.specs.Opening.{opening};
@@ -10,6 +10,7 @@ use desk_replies::Plainly;
 use entity_model::Entity;
 use m2m_io::{Clock, Link, Sink, Source, Status};
 use resource_tree::IndexTree;
+use service_observer::ItemObserver;
 use std::alloc::{AllocError as OutOfMemory, Global};
 use tree_model::Home;
 use turn_desk::OwnSeat;
@@ -29,7 +30,7 @@ pub(crate) fn opened(
 
 /// Sends the items of the outbox of the entity at a seat. The status is this one, unless memory
 /// runs out.
-fn send_behind<C: Clock, L: Link>(
+fn send_behind<C: Clock, L: Link + ItemObserver>(
     alloc: Global,
     seat: &mut OwnSeat<Served<IndexTree>>,
     bench: &mut Bench<C, L>,
@@ -51,7 +52,7 @@ fn send_behind<C: Clock, L: Link>(
 
 /// What is done behind a connection that ended so: where it was closed, or what was left of it was
 /// no message, the items of the outbox are sent.
-fn finish<C: Clock, L: Link>(
+fn finish<C: Clock, L: Link + ItemObserver>(
     alloc: Global,
     seat: &mut OwnSeat<Served<IndexTree>>,
     bench: &mut Bench<C, L>,
@@ -77,7 +78,7 @@ fn finish<C: Clock, L: Link>(
 
 /// Opens an entity with this home at the clock's first reading, serves input and output as one
 /// connection, and sends the items that this leaves in the outbox.
-pub(crate) fn serve_streams<S: Source, O: Sink, C: Clock, L: Link>(
+pub(crate) fn serve_streams<S: Source, O: Sink, C: Clock, L: Link + ItemObserver>(
     alloc: Global,
     home: Home,
     input: &mut S,

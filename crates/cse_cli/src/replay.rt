@@ -1,5 +1,5 @@
 //! The command `replay`.
-ghost use Rattle.std.specs.Prelude.{◌≡◌, ◌≢◌, ◌≤◌};
+ghost use Rattle.std.specs.Prelude.{◌≡◌, ◌≢◌};
 ghost use Rattle.cse_server.specs.Outside.{EndsByFault, link_told, outside, sink_told};
 ghost use Rattle.cse_cli.specs.Run.{RunsReplay};
 

@@ -10,6 +10,7 @@ use command_words::Serving;
 use cse_machine::{Event, Outcome};
 use cse_server::{Bench, ServeFault, serve};
 use m2m_io::{Clock, Door, Link, Status};
+use service_observer::{ItemObserver, ReplyObserver};
 use std::alloc::Global;
 use std::sync::Wait;
 use std::thread::Threads;
@@ -35,8 +36,9 @@ where
     R: Wait + Threads + Drop + Sync,
     O: Object<Event = Event, Outcome = Outcome> + Send + Drop,
     D: Door + Send,
+    D::Conn: ReplyObserver,
     C: Clock + Send + Drop,
-    L: Link + Send + Drop,
+    L: Link + ItemObserver + Send + Drop,
     requires benches { 2 ≤ vec_len benches }
     ensures serves { let attends = Attends SeatGrows
         (conn_tells D.Conn.left D.Conn.written D.Conn.puts D.Conn.Source.faults
@@ -113,8 +115,9 @@ pub(crate) fn serve_door<R, D, C, L>(
 where
     R: Wait + Threads + time::Clock + Clone + Drop + Sync,
     D: Door + Send,
+    D::Conn: ReplyObserver,
     C: Clock + Send + Drop,
-    L: Link + Send + Drop,
+    L: Link + ItemObserver + Send + Drop,
     requires benches { 2 ≤ vec_len benches }
     ensures opens { let attends = Attends SeatGrows
         (conn_tells D.Conn.left D.Conn.written D.Conn.puts D.Conn.Source.faults

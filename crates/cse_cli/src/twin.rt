@@ -1,5 +1,5 @@
 //! The command `twin`.
-ghost use Rattle.std.specs.Prelude.{◌≡◌, ◌≢◌, ◌≤◌};
+ghost use Rattle.std.specs.Prelude.{◌≢◌};
 ghost use Rattle.cse_server.specs.Outside.{EndsByFault, sink_told};
 ghost use Rattle.twin_replay.specs.Twins.{Twins, told};
 

@@ -1,5 +1,5 @@
 -- The talk of frames that are joined.
-use Rattle.std.proofs.Common.{◌≡◌, ℕ, ◌+◌, Bool, true, false, List, [], ◌∷◌, ◌++◌, length, Option, Some, None, IsTrue, cond, inl, inr, refl, sym, ap, subst, ◌∙◌, arith, append_assoc, append-nil, length-append}
+use Rattle.std.proofs.Common.{◌≡◌, ℕ, ◌+◌, Bool, true, false, List, [], ◌∷◌, ◌++◌, length, Option, Some, None, IfSome, IsTrue, cond, inl, inr, refl, sym, ap, subst, ◌∙◌, arith, append_assoc, append-nil, length-append}
 use Rattle.std.proofs.lemmas.Bool.{cases_Bool, true≢false}
 use Rattle.std.specs.List.{cons_option}
 use Rattle.std.proofs.lemmas.List.Elements.{filter_map-append}
@@ -8,7 +8,8 @@ use Rattle.http_frames.specs.declared.frame.Frame.{Frame}
 use Rattle.http_binding.specs.Replying.{reply_text}
 use Rattle.primitive_json.specs.declared.reply.ReplyParts.{ReplyParts}
 use Rattle.cse_server.specs.Closing.{closes}
-use Rattle.cse_server.specs.Talk.{request_in, requests_in, reply_for, replies_behind, reply_texts, last_reply, talk, before_last, talk_before_last, talk_length, some_closes, ends_at_close}
+use Rattle.m2m_value.specs.Sound.{IsSound}
+use Rattle.cse_server.specs.Talk.{SaySound, request_in, requests_in, reply_for, replies_behind, reply_texts, last_reply, talk, before_last, talk_before_last, talk_length, some_closes, ends_at_close}
 
 -- ---- places
 
@@ -86,6 +87,19 @@ pub talk-append : (xs ys : List Frame) (place : ℕ) (refused : Bool) (rs more :
 talk-append xs ys place refused rs more stays same =
     ap (λ v. v ++ cond refused last_reply []) (reply_texts-append xs ys place rs more stays same)
     ∙ append_assoc (reply_texts xs place rs) (reply_texts ys (place + length xs) more) (cond refused last_reply [])
+
+-- what is said to frames is sound, and then what is said to others
+pub SaySound-append : (xs ys : List Frame) (rs more : List ReplyParts) → length rs ≡ length (requests_in xs) → SaySound xs rs → SaySound ys more → SaySound (xs ++ ys) (rs ++ more)
+SaySound-append [] ys [] more same first then = then
+SaySound-append [] ys (o ∷ rs) more same first then = absurd (some_left o rs same)
+SaySound-append (x ∷ xs) ys rs more same first then =
+    let r = request_in x in
+    let left = replies_behind r rs in
+    let again : length left ≡ length (requests_in xs) = behind_length r (requests_in xs) rs same in (
+      subst (λ (v : ReplyParts). IfSome v.pc IsSound) (sym (reply_same x r (requests_in xs) rs more same)) first.0,
+      subst (λ (v : List ReplyParts). SaySound (xs ++ ys) v) (sym (behind_append r (requests_in xs) rs more same))
+          (SaySound-append xs ys left more again first.1 then),
+    )
 
 -- ---- all but what is said last
 

@@ -22,9 +22,10 @@ use Rattle.cse_machine.specs.declared.event.Outcome.{Outcome}
 use Rattle.cse_server.specs.declared.connection.Ended.{Ended}
 use Rattle.cse_server.specs.declared.connection.Ended.TheVariants.{Closed, NoFrame, ReadFault, WriteFault, Memory}
 use Rattle.cse_server.specs.Closing.{closes}
-use Rattle.cse_server.specs.Talk.{request_in, requests_in, malformed, reply_for, reply_texts, last_reply, talk, talk_before_last, talk_length, some_closes, ends_at_close}
-use Rattle.cse_server.specs.Connection.{ReadsLittle, RefusesRightly, EndsRightly, PutsCut, PutsOneLess, Says, ServesFrom}
-use Rattle.cse_server.specs.Way.{AnswersFrame, AsksFrames, Leads, Goes, Hears, Refuses, SaysTurn, end_of_put}
+use Rattle.m2m_value.specs.Sound.{IsSound}
+use Rattle.cse_server.specs.Talk.{SaySound, request_in, requests_in, malformed, reply_for, reply_texts, last_reply, talk, talk_before_last, talk_length, some_closes, ends_at_close}
+use Rattle.cse_server.specs.Connection.{ReadsLittle, RefusesRightly, EndsRightly, PutsCut, PutsOneLess, Says, ServesFrom, says_all}
+use Rattle.cse_server.specs.Way.{AnswersFrame, AsksFrames, Leads, Goes, Hears, Refuses, SaysTurn, end_of_put, is_put}
 use Rattle.cse_server.proofs.NextLemmas.{kept_leads, reads_little, ended_empty, refused_rightly, reply_texts-one, some_closes-one}
 use Rattle.http_binding.specs.Binding.{echo_of}
 use Rattle.cse_server.proofs.RequestLemmas.{reply_for-one, requests_in-none, requests_in-one}
@@ -111,6 +112,14 @@ starved_stream (Some bytes) src place ended heard same memory little = (
   subst (λ (e : Ended). EndsRightly place e false heard bytes src) (sym memory) little,
 )
 
+-- where all is said behind the turn of a frame, its reply was written
+put_whole : (place : ℕ) (frame : Frame) (text : List ℕ) (old new : SinkTold) (ended : Ended) → SaysTurn place frame (Some ended) text old new → says_all ended ≡ true → is_put (Some ended) ≡ true
+put_whole place frame text old new Closed said all = refl
+put_whole place frame text old new NoFrame said all = absurd said
+put_whole place frame text old new ReadFault said all = absurd said
+put_whole place frame text old new WriteFault said all = absurd (false≢true all)
+put_whole place frame text old new Memory said all = absurd (false≢true all)
+
 module _ {S : Type 0} (rule : ReplyRule) (grown : S → List (Marked Event Outcome) → S → Type 0) where
   -- a frame that binds was asked
   pub heard_one : {E : Type 0} (before after : S) (given now : Option (List ℕ)) (told more : LinkTold) (frame : Frame) (request : RequestParts)
@@ -155,8 +164,9 @@ module _ {S : Type 0} (rule : ReplyRule) (grown : S → List (Marked Event Outco
   pub turned : {E : Type 0} (place : ℕ) (before after : S) (old new : Outside) (frame : Frame) (r : ReplyParts) (ended : Option Ended)
       → Hears {E = E} rule grown before after old.readings new.readings old.link new.link frame (Ok r)
       → SaysTurn place frame ended (reply_text r (closes place frame)) old.out new.out
+      → (is_put ended ≡ true → IfSome r.pc IsSound)
       → AnswersFrame place rule grown before after old new frame ended
-  turned place before after old new frame r ended h said =
+  turned place before after old new frame r ended h said sound =
       let replies = h.asks.answers.replies in
       let one : reply_texts h.heard place replies ≡ reply_texts (frame ∷ []) place replies = ap (λ (fs : List Frame). reply_texts fs place replies) h.replied.0 in record {
         heard = h.heard;
@@ -165,6 +175,9 @@ module _ {S : Type 0} (rule : ReplyRule) (grown : S → List (Marked Event Outco
         cut = λ begun. absurd (true≢false (sym h.replied.1 ∙ begun));
         said = subst (λ (text : List ℕ). SaysTurn place frame ended text old.out new.out)
             (ap (λ (v : ReplyParts). reply_text v (closes place frame)) h.replied.2 ∙ sym (reply_texts-one frame place replies) ∙ sym one) said;
+        sound = λ put.
+            subst (λ (fs : List Frame). SaySound fs replies) (sym h.replied.0)
+            (subst (λ (v : ReplyParts). IfSome v.pc IsSound) h.replied.2 (sound put), tt);
       }
 
   -- memory ran out before there was a reply
@@ -180,6 +193,7 @@ module _ {S : Type 0} (rule : ReplyRule) (grown : S → List (Marked Event Outco
     asks = h.asks;
     cut = λ begun. refl;
     said = same;
+    sound = λ put. absurd (false≢true put);
   }
 
   module _ (nothing : (seat : S) → grown seat [] seat) where
@@ -225,6 +239,7 @@ module _ {S : Type 0} (rule : ReplyRule) (grown : S → List (Marked Event Outco
       asks = asks_none seat old.readings old.readings old.link old.link refl refl;
       cut = λ begun. refl;
       said = refl;
+      sound = λ put. tt;
     }
 
     -- nothing was heard, and the connection ended so
@@ -244,6 +259,7 @@ module _ {S : Type 0} (rule : ReplyRule) (grown : S → List (Marked Event Outco
         stream = here old.left stream;
         says = subst (λ (before : List ℕ). Says ended before (talk place [] refused []) (talk_length [] refused) old.out new.out)
             (sym (nothing_before place refused)) said;
+        sound = λ all. tt;
         cut = λ begun. absurd (true≢false begun);
       };
     }
@@ -336,6 +352,7 @@ module _ {S : Type 0} (rule : ReplyRule) (grown : S → List (Marked Event Outco
     stays_on = rw e (some_closes-one frame place false t.said.0);
     stream = subst (λ (fs : List Frame). Leads left fs rest) (sym e) leads;
     said = subst (λ (n : ℕ). Puts (reply_texts t.heard place t.asks.answers.replies) n old.out new.out) (sym (ap (λ (fs : List Frame). length fs) e)) t.said.1;
+    sound = t.sound refl;
   }
     where
       e : t.heard ≡ frame ∷ []
@@ -371,6 +388,7 @@ module _ {S : Type 0} (rule : ReplyRule) (grown : S → List (Marked Event Outco
                 unheard_says place frame ended _ (reply_texts t.heard place replies) (talk_length t.heard false) old.out new.out (some_same ended starved.1)
                 (ap (λ (fs : List Frame). reply_texts fs place replies) starved.0) (ap (λ (fs : List Frame). talk_length fs false) starved.0) t.said
           ];
+          sound = λ all. t.sound (put_whole place frame (reply_texts t.heard place replies) old.out new.out ended t.said all);
           cut = λ begun. elim t.either [
             | inl same ↦
                 let memory = some_same ended (t.cut begun) in (
@@ -409,6 +427,7 @@ module _ {S : Type 0} (rule : ReplyRule) (grown : S → List (Marked Event Outco
       stays_on = refl;
       stream = rw none (start left);
       said = puts_none old;
+      sound = tt;
     }
       where
         start : (left : Option (List ℕ)) → Leads left [] (stream_of [] left)
@@ -420,6 +439,11 @@ pub put_says : (place : ℕ) (frame : Frame) (text : List ℕ) (old new : SinkTo
     → (fault ≡ PutWrite → PutsPart text old new) → (fault ≡ PutMemory → new ≡ old) → SaysTurn place frame (Some (end_of_put fault)) text old new
 put_says place frame text old new PutWrite part none = part refl
 put_says place frame text old new PutMemory part none = none refl
+
+-- and then its reply wasn't
+pub not_put : (fault : PutFault) → is_put (Some (end_of_put fault)) ≡ true → ⊥
+not_put PutWrite put = false≢true put
+not_put PutMemory put = false≢true put
 
 -- what follows where a call didn't end the connection
 pub next_goes : (Goes : Type 0) (Serves : Ended → Type 0) (r : Option Ended) → ((ended : Ended) → r ≡ Some ended → ⊥) → MatchOption r Goes Serves → Goes

@@ -1,8 +1,6 @@
 -- A connection on its way, joined with what comes next.
-use Rattle.std.proofs.Common.{◌≡◌, ℕ, ◌+◌, Bool, true, false, List, [], ◌∷◌, ◌++◌, length, map, Option, Some, None, IfSome, inl, inr, sym, ap, subst, ◌∙◌, arith, length-append}
-use Rattle.std.proofs.lemmas.List.{map-append}
+use Rattle.std.proofs.Common.{◌≡◌, ℕ, ◌+◌, Bool, true, false, List, [], ◌∷◌, ◌++◌, length, Option, Some, None, IfSome, inl, inr, sym, ap, subst, ◌∙◌, arith, length-append}
 use Rattle.cse_server.specs.Outside.{LinkTold, Outside, Puts, SinkTold}
-use Rattle.primitive_json.specs.declared.request.RequestParts.{RequestParts}
 use Rattle.turn_desk.specs.Entries.{Marked}
 use Rattle.desk_replies.specs.Asking.{Asked, asked_on}
 use Rattle.desk_replies.specs.Rule.{ReplyRule}
@@ -17,7 +15,7 @@ use Rattle.http_frames.specs.declared.frame.Side.TheVariants.{Request}
 use Rattle.http_frames.specs.Stream.{BeginsWithFrames}
 use Rattle.cse_server.specs.Connection.{AnswersFrames, EndsRightly, PutsOneLess, RefusesRightly, Says, ServesFrom}
 use Rattle.cse_server.specs.Way.{AsksFrames, Goes, Leads}
-use Rattle.cse_server.proofs.TalkLemmas.{some_closes-append, ends_at_close-append, requests_in-append, reply_texts-append, talk-append, talk_length-append, before_last-joined, before_last-whole}
+use Rattle.cse_server.proofs.TalkLemmas.{SaySound-append, some_closes-append, ends_at_close-append, requests_in-append, reply_texts-append, talk-append, talk_length-append, before_last-joined, before_last-whole}
 use Rattle.cse_server.proofs.PutLemmas.{Puts-append, cut_behind, less_behind}
 
 -- ---- streams
@@ -110,6 +108,7 @@ module _ {S : Type 0} (rule : ReplyRule) (grown : S → List (Marked Event Outco
         let fit = answered_length rule (requests_in a.heard) a.asks.asked a.asks.answers in
         rw (reply_texts-append a.heard b.heard place a.asks.answers.replies b.asks.answers.replies a.stays_on fit, a.places, length-append)
         (Puts-append old.out mid.out new.out _ _ (length a.heard) (length b.heard) a.said b.said);
+    sound = SaySound-append a.heard b.heard a.asks.answers.replies b.asks.answers.replies (answered_length rule (requests_in a.heard) a.asks.asked a.asks.answers) a.sound b.sound;
   }
 
   pub Serves-then : (place between : ℕ) (before seat after : S) (old mid new : Outside) (ended : Ended)
@@ -138,6 +137,7 @@ module _ {S : Type 0} (rule : ReplyRule) (grown : S → List (Marked Event Outco
               (length a.heard) (talk_length t.heard t.refused) joined.1 whole a.said ended
               (rw a.places t.says) in
               rw (talk-append a.heard t.heard place t.refused said more a.stays_on fit, talk_length-append a.heard t.heard t.refused) says;
+          sound = λ all. SaySound-append a.heard t.heard said more fit a.sound (t.sound all);
           cut = λ begun.
               let less : PutsOneLess (talk_before_last (place + length a.heard) t.heard t.refused more) (talk_length t.heard t.refused) mid.out new.out =
               rw a.places ((t.cut begun).1) in (

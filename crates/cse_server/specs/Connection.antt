@@ -15,7 +15,7 @@ use Rattle.cse_machine.specs.declared.event.Outcome.{Outcome}
 use Rattle.cse_server.specs.declared.connection.Ended.{Ended}
 use Rattle.cse_server.specs.declared.connection.Ended.TheVariants.{Closed, NoFrame, ReadFault}
 use Rattle.cse_server.specs.declared.connection.Ended.TheVariants.{WriteFault, Memory}
-use Rattle.cse_server.specs.Talk.{requests_in, talk, talk_before_last, talk_length, some_closes}
+use Rattle.cse_server.specs.Talk.{SaySound, requests_in, talk, talk_before_last, talk_length, some_closes}
 use Rattle.cse_server.specs.Talk.{ends_at_close}
 
 -- ---- how it ends
@@ -83,6 +83,14 @@ Says Memory before text count old new =
 abbrev pub AnswersFrames : ReplyRule → List Frame → Asked → Type 0
 AnswersFrames rule frames asked = IsAnswered rule (requests_in frames) asked
 
+-- all that is said where a connection ends so was written
+abbrev pub says_all : Ended → Bool
+says_all Closed = true
+says_all NoFrame = true
+says_all ReadFault = true
+says_all WriteFault = false
+says_all Memory = false
+
 -- A connection was answered by this rule, from the frame at this place on: what it had left to
 -- read is first `old` and now `new`, and what was written to it first `said` and now `told`. Of the
 -- bytes that it had left, `heard` are the requests that were read.
@@ -101,6 +109,8 @@ pub record Talks (rule : ReplyRule) (place : ℕ) (asked : Asked) (old new : Opt
   -- their talk by these replies is written
   pub says : Says ended (talk_before_last place heard refused answers.replies)
       (talk place heard refused answers.replies) (talk_length heard refused) said told
+  -- what was written whole is sound
+  pub sound : says_all ended ≡ true → SaySound heard answers.replies
   -- where memory ran out in what is asked for the last one, the reply to it isn't begun
   pub cut : answers.is_whole ≡ false
       → (ended ≡ Memory) × PutsOneLess (talk_before_last place heard refused answers.replies)

@@ -1,10 +1,11 @@
 -- What a connection is answered, by its frames and the replies to their requests (TS-0009, 6; RFC
 -- 9112, 9.3).
 use Rattle.std.specs.Prelude.{ℕ, ◌+◌, Bool, true, false, not, ◌&&◌, ◌||◌, List, [], ◌∷◌, ◌++◌}
-use Rattle.std.specs.Prelude.{Option, Some, None, if◌then◌else◌, length}
+use Rattle.std.specs.Prelude.{Option, Some, None, IfSome, if◌then◌else◌, length, ⊤}
 use Rattle.std.specs.List.{filter_map}
 use Rattle.std.specs.Result.{result_ok}
 use Rattle.m2m_names.specs.declared.codes.Rsc.TheVariants.{BadRequest}
+use Rattle.m2m_value.specs.Sound.{IsSound}
 use Rattle.primitive_json.specs.declared.reply.ReplyParts.{ReplyParts}
 use Rattle.primitive_json.specs.declared.request.RequestParts.{RequestParts}
 use Rattle.http_frames.specs.declared.frame.Frame.{Frame}
@@ -50,6 +51,13 @@ reply_texts (frame ∷ frames) place replies =
     reply_text (reply_for frame (request_in frame) replies) (closes place frame)
     ++ (if closes place frame then []
     else reply_texts frames (place + 1) (replies_behind (request_in frame) replies))
+
+-- The content of each reply that is said to frames is sound, as each value is that is kept.
+abbrev pub SaySound : List Frame → List ReplyParts → Type 0
+SaySound [] replies = ⊤
+SaySound (frame ∷ frames) replies =
+    IfSome (reply_for frame (request_in frame) replies).pc IsSound
+    × SaySound frames (replies_behind (request_in frame) replies)
 
 -- some frame closes, the first of them standing at this place
 abbrev pub some_closes : List Frame → ℕ → Bool

@@ -1,5 +1,5 @@
 -- A connection on its way: what its calls say of the frames so far.
-use Rattle.std.specs.Prelude.{◌≡◌, ◌⊎◌, ℕ, ◌+◌, true, false, List, [], ◌∷◌, length}
+use Rattle.std.specs.Prelude.{◌≡◌, ◌⊎◌, ℕ, ◌+◌, Bool, true, false, List, [], ◌∷◌, length}
 use Rattle.std.specs.Prelude.{Option, Some, None, IfOk, Result, ⊤}
 use Rattle.desk_replies.specs.Asking.{Asked, HasAsked}
 use Rattle.desk_replies.specs.Rule.{ReplyRule}
@@ -16,7 +16,7 @@ use Rattle.cse_server.specs.declared.connection.Ended.{Ended}
 use Rattle.cse_server.specs.declared.connection.Ended.TheVariants.{Closed, NoFrame, ReadFault}
 use Rattle.cse_server.specs.declared.connection.Ended.TheVariants.{WriteFault, Memory}
 use Rattle.cse_server.specs.Closing.{closes}
-use Rattle.cse_server.specs.Talk.{request_in, reply_for, reply_texts, last_reply}
+use Rattle.cse_server.specs.Talk.{SaySound, request_in, reply_for, reply_texts, last_reply}
 use Rattle.cse_server.specs.Talk.{some_closes}
 use Rattle.http_frames.specs.declared.frame.Side.TheVariants.{Request}
 use Rattle.http_frames.specs.Stream.{BeginsWithFrames}
@@ -50,6 +50,7 @@ pub record Goes {S : Type 0} (place next : ℕ) (rule : ReplyRule)
   pub stays_on : some_closes heard place ≡ false
   pub stream : Leads old.left heard new.left
   pub said : Puts (reply_texts heard place asks.answers.replies) (length heard) old.out new.out
+  pub sound : SaySound heard asks.answers.replies
 
 -- A frame was heard, and asked if it binds, and this is the reply. Where memory ran out it may be
 -- that it wasn't heard.
@@ -86,6 +87,15 @@ SaysTurn place frame (Some ReadFault) text old new = ⊥
 SaysTurn place frame (Some WriteFault) text old new = PutsPart text old new
 SaysTurn place frame (Some Memory) text old new = new ≡ old
 
+-- the reply to a frame was written: the connection goes on, or the frame closed it
+abbrev pub is_put : Option Ended → Bool
+is_put None = true
+is_put (Some Closed) = true
+is_put (Some NoFrame) = false
+is_put (Some ReadFault) = false
+is_put (Some WriteFault) = false
+is_put (Some Memory) = false
+
 -- The frame at this place was heard and answered; or it wasn't heard, as memory ran out before.
 pub record AnswersFrame {S : Type 0} (place : ℕ) (rule : ReplyRule)
     (grown : S → List (Marked Event Outcome) → S → Type 0)
@@ -96,3 +106,4 @@ pub record AnswersFrame {S : Type 0} (place : ℕ) (rule : ReplyRule)
   pub cut : asks.answers.is_whole ≡ false → ended ≡ Some Memory
   pub said : SaysTurn place frame ended (reply_texts heard place asks.answers.replies)
       old.out new.out
+  pub sound : is_put ended ≡ true → SaySound heard asks.answers.replies

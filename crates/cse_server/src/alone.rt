@@ -9,6 +9,7 @@ use crate::{Answerer, Ended, send_notes};
 use cse_machine::{Event, Outcome};
 use desk_replies::Replier;
 use m2m_io::{Clock, Connection, Link};
+use service_observer::{ItemObserver, ReplyObserver};
 use std::alloc::{AllocError as OutOfMemory, Global};
 use turn_desk::{Object, OwnDesk, OwnSeat};
 
@@ -24,7 +25,7 @@ pub fn serve_alone<O, X, C, L, W>(
 ) -> Ended
 where
     O: Object<Event = Event, Outcome = Outcome>,
-    X: Connection,
+    X: Connection + ReplyObserver,
     C: Clock,
     L: Link,
     W: Replier,
@@ -60,7 +61,7 @@ pub fn send_alone<O, C, L>(
 where
     O: Object<Event = Event, Outcome = Outcome>,
     C: Clock,
-    L: Link,
+    L: Link + ItemObserver,
     ensures { SendsItems (IsOwnRun O.step) seat.old seat.new
         (C.readings clock.old) (C.readings clock.new)
         (link_told (L.exchanges link.old) (L.faults link.old))

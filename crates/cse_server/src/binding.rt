@@ -3,6 +3,7 @@ use crate::{Answerer, Ended};
 use cse_machine::{Event, Outcome};
 use desk_replies::{Binding, Replier};
 use m2m_io::{Clock, Connection, Link};
+use service_observer::ReplyObserver;
 use std::alloc::Global;
 use turn_desk::Desk;
 
@@ -20,7 +21,7 @@ pub struct HttpBinding<W> {
     pub replier: W,
 }
 
-impl<X: Connection + Drop, W: Replier> Binding<X, Attended<X>> for HttpBinding<W> {
+impl<X: Connection + ReplyObserver + Drop, W: Replier> Binding<X, Attended<X>> for HttpBinding<W> {
     ghost use Rattle.cse_server.specs.Attending.{TalksHttp, conn_tells};
 
     ghost talks = { λ binding. TalksHttp (W.rule binding.replier)

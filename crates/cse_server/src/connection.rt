@@ -11,13 +11,14 @@ ghost use Rattle.cse_server.specs.Connection.{Serves, ServesFrom};
 ghost use Rattle.cse_server.specs.Way.{AnswersFrame, Goes, Hears, Refuses};
 
 use crate::closing::{MOST_FRAMES, closes};
-use crate::replying::{id_of, put_last_reply, put_reply, refusal_of};
+use crate::replying::{id_of, put_last_reply, put_told, refusal_of};
 use cse_machine::{Event, Outcome};
 use desk_replies::{Plainly, Replier};
 use http_binding::{BindFault, BodyRoom, ReplyRoom, to_request_in};
 use http_frames::{Frame, FrameFault, Inbox, Next, PutFault};
 use m2m_io::{Clock, Connection, Link};
 use primitive_json::{Reply, Request};
+use service_observer::ReplyObserver;
 use std::alloc::{AllocError as OutOfMemory, Global};
 use turn_desk::Desk;
 
@@ -84,8 +85,22 @@ struct Heard {
     frame: Frame,
 }
 
+/// The request that a frame binds to, or why it binds to none.
+fn parted(asked: Result<Request, BindFault>) -> (Option<Request>, Option<BindFault>)
+    ensures { result.0 ≡ result_ok asked }
+{
+    match asked {
+        Ok(request) => (Some(request), None),
+        Err(fault) => (None, Some(fault)),
+    }
+}
+
 /// Ends a connection on which no frame can stand.
-fn end_refused<X: Connection>(alloc: Global, conn: &mut X, room: &mut ReplyRoom) -> Ended
+fn end_refused<X: Connection + ReplyObserver>(
+    alloc: Global,
+    conn: &mut X,
+    room: &mut ReplyRoom,
+) -> Ended
     ensures refuses { Refuses (sink_told (X.written conn.old) (X.puts conn.old))
         (sink_told (X.written conn.new) (X.puts conn.new)) result }
     ensures writes { EndsByFault Ended.WriteFault result
@@ -130,10 +145,10 @@ where
         clock: &mut C,
         link: &mut L,
         frame: &Frame,
-        asked: Result<Request, BindFault>,
+        asked: Option<Request>,
     ) -> Result<Reply, OutOfMemory>
         requires seats { D.seats self.now.desk.now seat.old }
-        requires asked { result_ok asked ≡ request_in frame.now }
+        requires asked { asked ≡ request_in frame.now }
         ensures seats { D.seats self.now.desk.now seat.new }
         ensures hears { Hears (W.rule self.now.replier.now) D.grown seat.old seat.new
             (C.readings clock.old) (C.readings clock.new)
@@ -141,8 +156,8 @@ where
             (link_told (L.exchanges link.new) (L.faults link.new)) frame.now result }
     {
         match asked {
-            Err(_) => refusal_of(self.alloc, frame),
-            Ok(request) => {
+            None => refusal_of(self.alloc, frame),
+            Some(request) => {
                 let id = id_of(frame, &request);
                 self.replier
                     .reply(self.alloc, self.desk, seat, clock, link, id, request)
@@ -151,7 +166,7 @@ where
     }
 
     /// Answers a frame. None where the connection goes on.
-    fn answer<X: Connection, C: Clock, L: Link>(
+    fn answer<X: Connection + ReplyObserver, C: Clock, L: Link>(
         &self,
         seat: &mut D::Seat,
         conn: &mut X,
@@ -181,11 +196,20 @@ where
         if let Err(BindFault::OutOfMemory) = asked {
             return Some(Ended::Memory);
         }
-        let Ok(reply) = self.reply_for(seat, clock, link, &heard.frame, asked) else {
+        let (request, fault) = parted(asked);
+        let Ok(reply) = self.reply_for(seat, clock, link, &heard.frame, request) else {
             return Some(Ended::Memory);
         };
         let close = closes(heard.place, &heard.frame);
-        match put_reply(self.alloc, conn, &mut rooms.replies, &reply, close) {
+        match put_told(
+            self.alloc,
+            conn,
+            &mut rooms.replies,
+            &heard.frame,
+            fault.as_ref(),
+            &reply,
+            close,
+        ) {
             Ok(()) if close => Some(Ended::Closed),
             Ok(()) => None,
             Err(fault) => Some(Ended::from(fault)),
@@ -194,7 +218,7 @@ where
 
     /// Serves what stands next on a connection, where it has the place `place`, from 1. None where
     /// the connection goes on.
-    fn serve_next<X: Connection, C: Clock, L: Link>(
+    fn serve_next<X: Connection + ReplyObserver, C: Clock, L: Link>(
         &self,
         seat: &mut D::Seat,
         conn: &mut X,
@@ -241,7 +265,7 @@ where
 
     /// Serves one connection to its end, as `serve_connection` does, by what the replier makes of
     /// the answers.
-    pub fn serve<X: Connection, C: Clock, L: Link>(
+    pub fn serve<X: Connection + ReplyObserver, C: Clock, L: Link>(
         &self,
         seat: &mut D::Seat,
         conn: &mut X,
@@ -304,7 +328,7 @@ pub fn serve_connection<D, X, C, L>(
 ) -> Ended
 where
     D: Desk<Event = Event, Outcome = Outcome>,
-    X: Connection,
+    X: Connection + ReplyObserver,
     C: Clock,
     L: Link,
     requires { D.seats desk.now seat.old }

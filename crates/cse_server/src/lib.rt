@@ -41,6 +41,6 @@ pub use closing::MOST_FRAMES;
 pub use connection::{Answerer, Ended, serve_connection};
 pub use sending::{MOST_ITEMS, send_notes, send_to};
 pub use served::Served;
-pub use serving::{serve, serve_by};
+pub use serving::{OfRequests, serve, serve_by};
 pub use wire::Wire;
 pub use workers::ServeFault;

@@ -3,18 +3,20 @@ ghost use Rattle.std.specs.Prelude.{◌≡◌, ◌≢◌, ◌+◌, Some, Err, If
 ghost use Rattle.std.specs.Io.KnownBytes.{Appends};
 ghost use Rattle.m2m_io.specs.Counts.{CountsFault};
 ghost use Rattle.m2m_io.specs.Told.{AppendsPrefix, Tells};
+ghost use Rattle.m2m_value.specs.Sound.{IsSound};
 ghost use Rattle.http_binding.specs.Binding.{echo_of};
 ghost use Rattle.http_binding.specs.Replying.{reply_text};
 ghost use Rattle.cse_server.specs.Talk as spec;
 ghost use Rattle.cse_server.specs.Talk.{last_reply, request_in};
 
 use desk_replies::bare_reply;
-use http_binding::{ReplyRoom, echo_id, write_reply_text};
+use http_binding::{BindFault, ReplyRoom, echo_id, write_reply_text};
 use http_frames::{Frame, PutFault};
 use m2m_io::Connection;
 use m2m_names::Rsc;
 use m2m_value::Text;
 use primitive_json::{Reply, Request};
+use service_observer::ReplyObserver;
 use std::alloc::{AllocError as OutOfMemory, Global};
 
 /// The identifier that the frame has, as a text of its own.
@@ -58,6 +60,7 @@ pub(crate) fn put_reply<X: Connection>(
 ) -> Result<(), PutFault>
     ensures ok { OnOk result
         (Appends (X.written conn.old) (X.written conn.new) (reply_text reply.now close)) }
+    ensures sound { OnOk result (IfSome reply.now.pc IsSound) }
     ensures fault { result ≡ Err PutFault.WriteFault
         → AppendsPrefix (X.written conn.old) (X.written conn.new) (reply_text reply.now close) }
 
@@ -74,8 +77,40 @@ pub(crate) fn put_reply<X: Connection>(
     write_reply_text(alloc, reply, close, room, conn)
 }
 
-/// Writes the last reply of a connection on which no frame can stand.
-pub(crate) fn put_last_reply<X: Connection>(
+/// Writes the reply to a frame, and tells the connection of it, and why the frame binds to no
+/// request.
+pub(crate) fn put_told<X: Connection + ReplyObserver>(
+    alloc: Global,
+    conn: &mut X,
+    room: &mut ReplyRoom,
+    frame: &Frame,
+    fault: Option<&BindFault>,
+    reply: &Reply,
+    close: bool,
+) -> Result<(), PutFault>
+    ensures ok { OnOk result
+        (Appends (X.written conn.old) (X.written conn.new) (reply_text reply.now close)) }
+    ensures sound { OnOk result (IfSome reply.now.pc IsSound) }
+    ensures fault { result ≡ Err PutFault.WriteFault
+        → AppendsPrefix (X.written conn.old) (X.written conn.new) (reply_text reply.now close) }
+    ensures puts { result ≢ Err PutFault.OutOfMemory
+        → Tells (λ puts. puts + 1) (X.puts conn.old) (X.puts conn.new) }
+    ensures memory { result ≡ Err PutFault.OutOfMemory → conn.new ≡ conn.old }
+    ensures faults { CountsFault PutFault.WriteFault result
+        (X.Sink.faults conn.old) (X.Sink.faults conn.new) }
+    ensures left { X.left conn.new ≡ X.left conn.old }
+    ensures read_faults { X.Source.faults conn.new ≡ X.Source.faults conn.old }
+    ensures holds { (X.kept_by_read conn.new).holds ≡ (X.kept_by_read conn.old).holds }
+{
+    let put = put_reply(alloc, conn, room, reply, close);
+    if put.is_ok() {
+        conn.replied(frame, fault, reply);
+    }
+    put
+}
+
+/// Writes the last reply of a connection on which no frame can stand, and tells the connection.
+pub(crate) fn put_last_reply<X: Connection + ReplyObserver>(
     alloc: Global,
     conn: &mut X,
     room: &mut ReplyRoom,
@@ -92,5 +127,10 @@ pub(crate) fn put_last_reply<X: Connection>(
     ensures read_faults { X.Source.faults conn.new ≡ X.Source.faults conn.old }
     ensures holds { (X.kept_by_read conn.new).holds ≡ (X.kept_by_read conn.old).holds }
 {
-    put_reply(alloc, conn, room, &bare_reply(Rsc::BadRequest, None), true)
+    let reply = bare_reply(Rsc::BadRequest, None);
+    let put = put_reply(alloc, conn, room, &reply, true);
+    if put.is_ok() {
+        conn.refused(&reply);
+    }
+    put
 }

@@ -1,5 +1,5 @@
 //! Items of the outbox, and their way out.
-ghost use Rattle.std.specs.Prelude.{◌≡◌, ℕ, List, Option, [], OnOk, OnErr};
+ghost use Rattle.std.specs.Prelude.{ℕ, List, Option, [], OnOk, OnErr};
 ghost use Rattle.primitive_json.specs.Notes.{IsSomeUrl};
 ghost use Rattle.cse_server.specs.Outside.{Carries, link_told};
 ghost use Rattle.cse_server.specs.Sending.{SendsItems, TakesItem, carried_for, carried_to};
@@ -8,6 +8,7 @@ use cse_machine::{Event, Outcome};
 use http_client_binding::{Aim, host_of, request_bytes};
 use m2m_io::{Clock, Link, LinkFault};
 use primitive_json::{Dest, Note, NoteParts, Request};
+use service_observer::ItemObserver;
 use std::alloc::{AllocError as OutOfMemory, Global};
 use turn_desk::Desk;
 
@@ -41,9 +42,13 @@ fn exchange_once<L: Link>(
 }
 
 /// Sends an item where it is to go: over the link to the host of its URL, once, whatever is
-/// answered. One for a polling channel that is gone, or for what can't be reached, is let go. Where
-/// memory runs out, nothing was sent.
-pub fn send_to<L: Link>(alloc: Global, link: &mut L, note: &Note) -> Result<(), OutOfMemory>
+/// answered. One for a polling channel that is gone, or for what can't be reached, is let go; of the
+/// latter the link is told. Where memory runs out, nothing was sent.
+pub fn send_to<L: Link + ItemObserver>(
+    alloc: Global,
+    link: &mut L,
+    note: &Note,
+) -> Result<(), OutOfMemory>
     ensures ok { OnOk result ((answer : Option (List ℕ))
         × Carries (carried_for note.now.dest note.now.request answer)
         (link_told (L.exchanges link.old) (L.faults link.old))
@@ -56,12 +61,20 @@ pub fn send_to<L: Link>(alloc: Global, link: &mut L, note: &Note) -> Result<(), 
     match dest {
         Dest::Direct(url) => exchange_once(alloc, link, url.entries(), Aim::Direct, request),
         Dest::Peer(url) => exchange_once(alloc, link, url.entries(), Aim::Peer, request),
-        Dest::Channel(_) | Dest::Nowhere => Ok(()),
+        Dest::Nowhere => {
+            link.let_go(request);
+            Ok(())
+        }
+        Dest::Channel(_) => Ok(()),
     }
 }
 
 /// Sends an item, and lets it go.
-fn send_note<L: Link>(alloc: Global, link: &mut L, note: Note) -> Result<(), OutOfMemory>
+fn send_note<L: Link + ItemObserver>(
+    alloc: Global,
+    link: &mut L,
+    note: Note,
+) -> Result<(), OutOfMemory>
     ensures ok { OnOk result ((answer : Option (List ℕ))
         × Carries (carried_for note.dest note.request answer)
         (link_told (L.exchanges link.old) (L.faults link.old))
@@ -109,7 +122,7 @@ pub fn send_notes<D, C, L>(
 where
     D: Desk<Event = Event, Outcome = Outcome>,
     C: Clock,
-    L: Link,
+    L: Link + ItemObserver,
     requires { D.seats desk.now seat.old }
     ensures seats { D.seats desk.now seat.new }
     ensures sends { SendsItems D.grown seat.old seat.new

@@ -12,6 +12,7 @@ use cse_machine::{Event, Outcome};
 use desk_replies::{Binding, Plainly};
 use m2m_io::{Clock, Door, Link};
 use primitive_json::retrieves;
+use service_observer::{ItemObserver, ReplyObserver};
 use std::alloc::Global;
 use std::sync::Wait;
 use std::thread::Threads;
@@ -20,7 +21,7 @@ use workers::{Errand, ServeFault, Service, serve_with};
 
 /// Requests may change what is asked, all but a Retrieve.
 #[derive(Drop)]
-struct OfRequests;
+pub struct OfRequests;
 
 impl Watch<Event> for OfRequests {
     fn may_change(&self, event: &Event) -> bool {
@@ -79,7 +80,7 @@ impl<K, C, L> Errand<K, Bench<C, L>> for Sender<'_>
 where
     K: Desk<Event = Event, Outcome = Outcome>,
     C: Clock,
-    L: Link,
+    L: Link + ItemObserver,
 {
     ghost use Rattle.cse_server.specs.Attending.{SendsFrom, link_tells};
 
@@ -123,7 +124,7 @@ where
     O: Object<Event = Event, Outcome = Outcome> + Send,
     D: Door + Send,
     C: Clock + Send + Drop,
-    L: Link + Send + Drop,
+    L: Link + ItemObserver + Send + Drop,
     A: Drop + Send,
     P: Binding<D::Conn, A> + Sync,
     requires benches { 2 ≤ vec_len benches }
@@ -171,8 +172,9 @@ where
     R: Wait + Threads + Sync,
     O: Object<Event = Event, Outcome = Outcome> + Send,
     D: Door + Send,
+    D::Conn: ReplyObserver,
     C: Clock + Send + Drop,
-    L: Link + Send + Drop,
+    L: Link + ItemObserver + Send + Drop,
     requires benches { 2 ≤ vec_len benches }
     requires seat { IsSeated O.step desk.now.table.shared.table_id seat }
 

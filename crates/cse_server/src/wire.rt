@@ -2,7 +2,11 @@
 ghost use Rattle.std.specs.Prelude.{◌≡◌, [], ◌∷◌, None};
 ghost use Rattle.m2m_io.specs.Sides.{side_of};
 
+use http_frames::Frame;
+use http_target::BindFault;
 use m2m_io::{Connection, Failed, Sink, Source};
+use primitive_json::Reply;
+use service_observer::ReplyObserver;
 
 /// A source and a sink that were lent, as one connection that is read and written.
 #[derive(Drop)]
@@ -55,4 +59,10 @@ impl<S: Source, O: Sink> Connection for Wire<'_, S, O> {
     ghost use Rattle.std.specs.Prelude.{refl};
 
     ghost keeps_sides = { record { read = λ w. refl; put = λ w. refl } };
+}
+
+impl<S: Source, O: Sink> ReplyObserver for Wire<'_, S, O> {
+    fn replied(&self, _: &Frame, _: Option<&BindFault>, _: &Reply) {}
+
+    fn refused(&self, _: &Reply) {}
 }

@@ -1,11 +1,10 @@
 -- Where nothing is asked behind a request, what was asked is the requests.
-use Rattle.std.proofs.Common.{◌≡◌, ℕ, zero, suc, ◌+◌, ◌≤◌, Bool, true, false, List, [], ◌∷◌, ◌++◌, length, map, take, refl, sym, ap, subst, ◌∙◌, arith}
+use Rattle.std.proofs.Common.{◌≡◌, ℕ, zero, suc, ◌+◌, ◌≤◌, Bool, true, false, List, [], ◌∷◌, ◌++◌, length, map, take, refl, sym, subst, ◌∙◌, arith}
 use Rattle.std.specs.List.{All, flat_map}
 use Rattle.std.proofs.lemmas.List.Elements.{All-append, All-cons, All-head, All-nil, All-tail}
 use Rattle.primitive_json.specs.declared.reply.ReplyParts.{ReplyParts}
 use Rattle.primitive_json.specs.declared.request.RequestParts.{RequestParts}
-use Rattle.desk_replies.specs.Asking.{Asked}
-use Rattle.desk_replies.specs.Rule.{AreWhole, Group, EachRequestIsAskedAlone, IsAnswered, IsBegun, IsWhole, plainly, replies_of, reply_by, requests_of}
+use Rattle.desk_replies.specs.Rule.{AreWhole, Group, EachRequestIsAskedAlone, IsBegun, IsWhole, plainly, replies_of, reply_by, requests_of}
 
 take_none : (n : ℕ) → take {A = RequestParts} n [] ≡ []
 take_none zero = refl

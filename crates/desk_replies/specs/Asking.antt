@@ -1,5 +1,5 @@
 -- What was put to a desk, and what came of it.
-use Rattle.std.specs.Prelude.{◌≡◌, ℕ, List, [], ◌++◌, map, Option}
+use Rattle.std.specs.Prelude.{ℕ, List, [], ◌++◌, map, Option}
 use Rattle.m2m_io.specs.Link.{Carrying}
 use Rattle.m2m_io.specs.Told.{Tells}
 use Rattle.primitive_json.specs.declared.reply.ReplyParts.{ReplyParts}

@@ -1,5 +1,5 @@
 -- How the reply to a request comes of what a desk answers.
-use Rattle.std.specs.Prelude.{◌≡◌, ◌≤◌, ◌⊎◌, ℕ, Bool, true, false, List, [], ◌∷◌, ◌++◌, length, map}
+use Rattle.std.specs.Prelude.{◌≡◌, ◌≤◌, ◌⊎◌, Bool, true, false, List, [], ◌∷◌, ◌++◌, length, map}
 use Rattle.std.specs.Prelude.{take, Result, Ok, Err}
 use Rattle.std.specs.List.{All, flat_map}
 use Rattle.primitive_json.specs.declared.reply.ReplyParts.{ReplyParts}
@@ -33,9 +33,11 @@ abbrev pub requests_of : ReplyRule → Group → List RequestParts
 requests_of rule group =
     group.request ∷ take (length group.outcomes) (rule.behind group.request group.outcome)
 
+-- what came of them: of the first, and of those behind it
 abbrev pub outcomes_of : Group → List Outcome
 outcomes_of group = group.outcome ∷ group.outcomes
 
+-- the replies that these outcomes gave, in the order of the requests
 abbrev pub replies_of : Group → List ReplyParts
 replies_of group = group.reply ∷ group.replies
 

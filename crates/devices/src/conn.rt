@@ -5,12 +5,19 @@ ghost use Rattle.std.specs.Io.{ReadsAtMost};
 use crate::clock::{millis_now, millis_of, since_start, time_left};
 use crate::doorway::{ON_ITS_WAY, Visitor, await_client};
 use crate::log::Log;
-use crate::scanner::RequestScanner;
+use crate::printing::{MOST_LOGGED, front, printable};
+use crate::reasons::why_refused;
+use crate::replies::{originator_of, start_of, why_of};
+use http_frames::Frame;
+use http_target::BindFault;
 use m2m_io::{Connection, Failed, Sink, Source};
-use std::io;
+use primitive_json::Reply;
+use service_observer::ReplyObserver;
+use std::alloc::AllocError;
 use std::io::{Eprint, ErrorKind, Read, Write};
 use std::net::{Shutdown, SocketAddr, TcpStream};
 use std::time::{Clock, Duration};
+use std::{io, str};
 
 /// So many seconds a client may say nothing, and so long it may take for one message, counted from
 /// its first byte that is read alone, and for one reply. Then it is given up, which is a fault of
@@ -29,6 +36,17 @@ const DRAINING: u64 = 1_000;
 /// and no more than so many bytes.
 const MOST_DRAINED: usize = 65_536;
 
+/// What a line says of a reply that was written.
+#[derive(Clone, Copy, Debug)]
+struct WrittenReply {
+    /// The status of HTTP.
+    status: u16,
+    /// How many bytes it has.
+    length: usize,
+    /// How many microseconds it took.
+    micros: u64,
+}
+
 /// A connection over TCP. Small packets aren't held back. When it is dropped, its writing side ends
 /// first, and what the client still sends is read and passed over for a while: else the system
 /// would reset the connection, and the client might never read the last reply.
@@ -44,7 +62,10 @@ pub struct TcpConn<R: Clock + Eprint + Copy> {
     is_pressed: bool,
     /// The client has ended its writing side, or the connection is closed for another client.
     is_ended: bool,
-    requests: Option<RequestScanner>,
+    /// The reply that was written last.
+    reply: WrittenReply,
+    /// The front of what was read since the last message began, where replies are logged.
+    heard: Vec<u8>,
     read_faults: u64,
     write_faults: u64,
 }
@@ -53,6 +74,14 @@ fn micros_of(time: Duration) -> u64 {
     time.as_secs()
         .saturating_mul(1_000_000)
         .saturating_add(time.subsec_micros() as u64)
+}
+
+/// The status of HTTP in a reply.
+fn status_in(reply: &[u8]) -> u16 {
+    match reply.get(9..12).and_then(|text| str::from_utf8(text).ok()) {
+        Some(text) => text.parse::<u16>().unwrap_or(0),
+        None => 0,
+    }
 }
 
 fn timed_out() -> io::Error {
@@ -139,7 +168,8 @@ impl<R: Clock + Eprint + Copy> Drop for TcpConn<R> {
             busy: _,
             is_pressed: _,
             is_ended,
-            requests: _,
+            reply: _,
+            heard: _,
             read_faults,
             write_faults,
         } = self;
@@ -162,11 +192,7 @@ impl<R: Clock + Eprint + Copy> TcpConn<R> {
         stream.set_nodelay(true)?;
         stream.set_read_timeout(Some(Duration::from_millis(AT_REST)))?;
         stream.set_write_timeout(patience)?;
-        let requests = if log.has_requests() {
-            Some(RequestScanner::new(log.allocator())?)
-        } else {
-            None
-        };
+        let heard = Vec::new(log.allocator());
         if let Some(figures) = log.figures() {
             figures.begin_connection();
         }
@@ -178,7 +204,12 @@ impl<R: Clock + Eprint + Copy> TcpConn<R> {
             busy: 0,
             is_pressed: false,
             is_ended: false,
-            requests,
+            reply: WrittenReply {
+                status: 0,
+                length: 0,
+                micros: 0,
+            },
+            heard,
             read_faults: 0,
             write_faults: 0,
         })
@@ -209,12 +240,14 @@ impl<R: Clock + Eprint + Copy> TcpConn<R> {
             self.is_ended = true;
         } else if self.begun.is_none() {
             self.begun = Some(millis_of(now));
+            self.heard.clear();
             if let Some(figures) = self.log.figures() {
                 figures.begin_request();
             }
         }
-        if let Some(requests) = &mut self.requests {
-            requests.hear(bytes);
+        if self.log.has_requests() {
+            let room = MOST_LOGGED.saturating_sub(self.heard.len());
+            let _ = self.heard.extend_from_slice(front(bytes, room));
             self.busy = micros_of(now);
         }
     }
@@ -245,20 +278,71 @@ impl<R: Clock + Eprint + Copy> TcpConn<R> {
         self.begun = None;
     }
 
-    /// A line for the request that these bytes answer.
-    fn log_reply(&mut self, bytes: &[u8])
+    /// Keeps what a line says of the reply that these bytes are.
+    fn note_reply(&mut self, bytes: &[u8])
         ensures reads { self.new.read_faults ≡ self.old.read_faults }
         ensures writes { self.new.write_faults ≡ self.old.write_faults }
     {
-        let rt = self.log.runtime();
-        let now = micros_of(since_start(&rt));
-        let taken = now.saturating_sub(self.busy);
-        self.busy = now;
-        if let Some(requests) = &mut self.requests {
-            if let Ok(text) = requests.line(self.log.allocator(), &self.peer, bytes, taken) {
-                self.log.tell(text.as_str());
-            }
+        if !self.log.has_requests() {
+            return;
         }
+        let now = micros_of(since_start(&self.log.runtime()));
+        self.reply = WrittenReply {
+            status: status_in(bytes),
+            length: bytes.len(),
+            micros: now.saturating_sub(self.busy),
+        };
+        self.busy = now;
+    }
+
+    /// What a line says of a message with this start, from this originator: the client, the
+    /// originator, the start, and how it was answered: the status of HTTP and the code of oneM2M,
+    /// the bytes of the reply, and the time that it took.
+    fn line_of(&self, originator: &str, start: &str, reply: &Reply) -> Result<String, AllocError> {
+        let peer = &self.peer;
+        let WrittenReply {
+            status,
+            length,
+            micros,
+        } = self.reply;
+        let code = reply.parts().rsc.number();
+        format!(in self.log.allocator();
+            "{peer} {originator} {start} {status} {code} {length}B {micros}us"
+        )
+    }
+
+    /// A line for the reply to a message, which says why the message is no request, or why the
+    /// request was refused.
+    fn line_for(
+        &self,
+        frame: &Frame,
+        fault: Option<&BindFault>,
+        reply: &Reply,
+    ) -> Result<String, AllocError> {
+        let alloc = self.log.allocator();
+        let originator = originator_of(alloc, frame)?;
+        let start = start_of(alloc, frame)?;
+        let line = self.line_of(originator.as_str(), start.as_str(), reply)?;
+        let why = match fault {
+            Some(fault) => Some(why_of(alloc, fault)?),
+            None => why_refused(alloc, frame, reply)?,
+        };
+        match why {
+            Some(why) => {
+                let (line, why) = (line.as_str(), why.as_str());
+                format!(in alloc; "{line} {why}")
+            }
+            None => Ok(line),
+        }
+    }
+
+    /// A line for the reply to what is no message. It says what was read since the last reply.
+    fn line_for_none(&self, reply: &Reply) -> Result<String, AllocError> {
+        let alloc = self.log.allocator();
+        let heard = printable(alloc, &self.heard)?;
+        let line = self.line_of("-", "- -", reply)?;
+        let (line, heard) = (line.as_str(), heard.as_str());
+        format!(in alloc; "{line} no message: {heard}")
     }
 
     /// A line for a fault. A client is idle that says nothing between two messages.
@@ -378,7 +462,7 @@ impl<R: Clock + Eprint + Copy> Sink for TcpConn<R> {
         match self.write_in_time(bytes) {
             Ok(()) => {
                 self.count_reply(bytes);
-                self.log_reply(bytes);
+                self.note_reply(bytes);
                 Ok(())
             }
             Err(error) => {
@@ -394,4 +478,22 @@ impl<R: Clock + Eprint + Copy> Connection for TcpConn<R> {
     ghost use Rattle.std.specs.Prelude.{refl};
 
     ghost keeps_sides = { record { read = λ c. refl; put = λ c. refl } };
+}
+
+impl<R: Clock + Eprint + Copy> ReplyObserver for TcpConn<R> {
+    fn replied(&self, frame: &Frame, fault: Option<&BindFault>, reply: &Reply) {
+        if self.log.has_requests()
+            && let Ok(line) = self.line_for(frame, fault, reply)
+        {
+            self.log.tell(line.as_str());
+        }
+    }
+
+    fn refused(&self, reply: &Reply) {
+        if self.log.has_requests()
+            && let Ok(line) = self.line_for_none(reply)
+        {
+            self.log.tell(line.as_str());
+        }
+    }
 }

@@ -20,7 +20,10 @@ mod door;
 mod doorway;
 mod figures;
 mod log;
-mod scanner;
+mod nowhere;
+mod printing;
+mod reasons;
+mod replies;
 mod streams;
 
 pub use clock::{SystemClock, millis_now, time_left};
@@ -28,4 +31,5 @@ pub use conn::{PATIENCE, TcpConn};
 pub use door::TcpDoor;
 pub use figures::Figures;
 pub use log::{Log, LogLevel};
+pub use printing::printable;
 pub use streams::{StdIn, StdOut, words};

@@ -2,9 +2,11 @@
 use crate::clock::millis_now;
 use crate::doorway::Doorway;
 use crate::figures::Figures;
+use crate::nowhere::{line_of_nowhere, subscription_of};
 use libc::net::{POLLNVAL, POLLOUT, poll};
 use libc::types::pollfd;
 use m2m_names::write_stamp;
+use primitive_json::Request;
 use std::alloc::{AllocError as OutOfMemory, Global};
 use std::io::{Eprint, ErrorKind};
 use std::sync::Arc;
@@ -40,10 +42,15 @@ const STANDARD_ERROR: i32 = 2;
 /// What is said once a minute at most is said again after so many milliseconds.
 const MINUTE: u64 = 60_000;
 
+/// Subscriptions and targets of items that go nowhere share so many moments before which nothing
+/// more is said of them.
+const MOST_NOWHERE: usize = 1_024;
+
 /// What all who write to a log share: the second in which faults were written last, how many were,
 /// how many lines were left out since, and whether somebody writes; what is known of the listening
 /// socket, and the moment before which nothing more is said of it; the figures, the moment before
-/// which they aren't said again, and how much had happened when they were said last.
+/// which they aren't said again, and how much had happened when they were said last; and the
+/// moments before which nothing more is said of items that go nowhere.
 #[derive(Drop)]
 struct Shared {
     second: AtomicU64,
@@ -55,6 +62,25 @@ struct Shared {
     figures: Figures,
     figures_until: AtomicU64,
     happened: AtomicU64,
+    nowhere_until: Vec<AtomicU64>,
+}
+
+/// So many words, which are 0.
+fn zeros(alloc: Global, count: usize) -> Result<Vec<AtomicU64>, OutOfMemory> {
+    let mut zeros = Vec::with_capacity(alloc, count)?;
+    for _ in 0..count {
+        zeros.push(AtomicU64::new(0))?;
+    }
+    Ok(zeros)
+}
+
+/// A number for a text, which is mostly another one for another text.
+fn number_of(text: &[u8]) -> usize {
+    let mut number = 0usize;
+    for byte in text {
+        number = number.wrapping_mul(31).wrapping_add(*byte as usize);
+    }
+    number
 }
 
 /// Whether this moment is none before which nothing more is said. Then another one is.
@@ -125,6 +151,7 @@ impl<R: Clock + Eprint + Copy + Drop> Log<R> {
             figures: Figures::new(),
             figures_until: AtomicU64::new(millis_now(&rt).saturating_add(MINUTE)),
             happened: AtomicU64::new(0),
+            nowhere_until: zeros(alloc, MOST_NOWHERE)?,
         };
         let shared = Arc::new(alloc, shared)?;
         Ok(Log {
@@ -261,6 +288,22 @@ impl<R: Clock + Eprint + Copy + Drop> Log<R> {
     pub(crate) fn say_full(&self) {
         if is_due(&self.shared.full_until, millis_now(&self.rt)) {
             self.fault("all workers are busy, and a client waits");
+        }
+    }
+
+    /// Says that an item goes nowhere, once a minute at most for each subscription, and for each
+    /// target of what no subscription sends.
+    pub fn say_nowhere(&self, request: &Request) {
+        let target = request.parts().to.entries();
+        let place = number_of(subscription_of(request).unwrap_or(target)) % MOST_NOWHERE;
+        let Some(until) = self.shared.nowhere_until.get(place) else {
+            return;
+        };
+        if !is_due(until, millis_now(&self.rt)) {
+            return;
+        }
+        if let Ok(line) = line_of_nowhere(self.alloc, request) {
+            self.fault(line.as_str());
         }
     }
 

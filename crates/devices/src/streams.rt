@@ -5,7 +5,7 @@ ghost use Rattle.m2m_io.specs.Counts.{Rose};
 ghost use Rattle.m2m_io.specs.Sides.{no_side};
 
 use m2m_io::{Failed, Sink, Source};
-use std::alloc::{AllocError, Global};
+use std::alloc::AllocError;
 use std::env;
 use std::io::{Read, Write};
 use std::rt::Env;

@@ -1,6 +1,6 @@
 //! The bytes of a reply, and their way into a sink.
 ghost use Rattle.std.specs.Prelude.{◌≡◌, ◌≢◌, ◌≤◌, ◌+◌, ◌-◌, ◌++◌, Err, IfOk, OnOk, codes, length};
-ghost use Rattle.std.specs.Prelude.{[], None, drop};
+ghost use Rattle.std.specs.Prelude.{[], None, IfSome, drop};
 ghost use Rattle.std.specs.Fmt.{decimal};
 ghost use Rattle.std.specs.Io.KnownBytes.{Appends};
 ghost use Rattle.m2m_io.specs.Counts.{CountsFault};
@@ -8,6 +8,7 @@ ghost use Rattle.m2m_io.specs.Told.{AppendsPrefix, Tells};
 ghost use Rattle.std.specs.List.{flat_map};
 ghost use Rattle.httparse.specs.Ascii.{crlf_bytes};
 ghost use Rattle.m2m_names.specs.StatusCodes.{rsc_row};
+ghost use Rattle.m2m_value.specs.Sound.{IsSound};
 ghost use Rattle.http_frames.specs.declared.frame.Start.TheVariants.{Answer};
 ghost use Rattle.http_frames.specs.Text.{line_text, phrase_of, start_text};
 ghost use Rattle.http_binding.specs.Headers.{code_field, length_field};
@@ -174,7 +175,8 @@ fn room_for_head(mut text: Vec<u8>) -> Result<Vec<u8>, OutOfMemory>
 
 /// Appends the body, where there is some.
 fn append_body(out: &mut Vec<u8>, content: &Option<Val>) -> Result<(), OutOfMemory>
-    ensures { OnOk result (out.new.items ≡ out.old.items ++ body_of content.now) }
+    ensures ok { OnOk result (out.new.items ≡ out.old.items ++ body_of content.now) }
+    ensures sound { OnOk result (IfSome content.now IsSound) }
 {
     if let Some(value) = content {
         write(value, out)?;
@@ -188,6 +190,7 @@ fn body_behind_room(buffer: Vec<u8>, content: &Option<Val>) -> Result<Vec<u8>, O
     ensures len { IfOk result
         (λ text. length text.items ≡ head_room + length (body_of content.now)) }
     ensures body { IfOk result (λ text. drop head_room text.items ≡ body_of content.now) }
+    ensures sound { OnOk result (IfSome content.now IsSound) }
 {
     let mut text = room_for_head(buffer)?;
     append_body(&mut text, content)?;
@@ -269,7 +272,8 @@ fn reply_bytes(
     close: bool,
     room: &mut ReplyRoom,
 ) -> Result<ReplyBytes, OutOfMemory>
-    ensures { IfOk result (λ bytes. bytes ≡ reply_text reply.now close) }
+    ensures text { IfOk result (λ bytes. bytes ≡ reply_text reply.now close) }
+    ensures sound { OnOk result (IfSome reply.now.pc IsSound) }
 {
     let parts = reply.parts();
     let (buffer, spare) = room.take(alloc);
@@ -289,6 +293,9 @@ pub fn write_reply_text<K: Sink>(
 ) -> Result<(), PutFault>
     ensures ok { OnOk result
         (Appends (K.written sink.old) (K.written sink.new) (reply_text reply.now close)) }
+
+    // The content that was written is sound, as each value is that is kept.
+    ensures sound { OnOk result (IfSome reply.now.pc IsSound) }
 
     // Where the sink failed, a prefix is written; where memory ran out, the reply isn't begun.
     ensures fault { result ≡ Err PutFault.WriteFault

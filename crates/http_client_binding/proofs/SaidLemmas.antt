@@ -1,5 +1,5 @@
 -- The frame of a reply says the reply.
-use Rattle.std.proofs.Common.{◌≡◌, ℕ, ◌+◌, ◌/◌, ◌%◌, ◌<◌, ◌≤◌, ◌^◌, ◌==◌, Bool, true, false, ◌&&◌, List, [], ◌∷◌, ◌++◌, length, codes, Option, Some, None, Result, Ok, Err, IfSome, decimal, refl, sym, ap, ◌∙◌, arith}
+use Rattle.std.proofs.Common.{◌≡◌, ℕ, ◌+◌, ◌/◌, ◌%◌, ◌<◌, ◌≤◌, ◌^◌, ◌==◌, Bool, true, false, List, [], ◌∷◌, ◌++◌, length, codes, Option, Some, None, Ok, Err, IfSome, decimal, refl, ap, ◌∙◌, arith}
 use Rattle.std.specs.Bool.{if◌then◌else◌}
 use Rattle.std.specs.Prelude.{ℤ, pos, negsuc}
 use lib.Signed.{mag}
@@ -7,7 +7,7 @@ use Rattle.std.specs.Fmt.{signed_decimal}
 use Rattle.std.specs.Char.{is_ascii_digit}
 use Rattle.std.specs.List.{list_all}
 use Rattle.std.specs.Option.{option_map_or}
-use Rattle.std.specs.Result.{result_unwrap_or, is_ok}
+use Rattle.std.specs.Result.{result_unwrap_or}
 use Rattle.std.specs.Str.Parse.{digits_value}
 use Rattle.std.proofs.lemmas.Bool.{and_from, lt-ltb, false≢true}
 use Rattle.std.proofs.lemmas.Fmt.{decimal_nonempty, decimal_step, decimal_digit, digits_decimal, digits_value-decimal}
@@ -15,7 +15,7 @@ use Rattle.m2m_names.specs.StatusCodes.{rsc_row, rsc_of_number}
 use Rattle.m2m_names.specs.declared.codes.Rsc.{Rsc}
 use Rattle.m2m_names.proofs.StatusLemmas.{number_in_range, rsc_again}
 use Rattle.m2m_value.specs.Data.{Data, null, boolean, number, text, list, object, depth}
-use Rattle.m2m_value.specs.Reading.{reading, reading_depth}
+use Rattle.m2m_value.specs.Reading.{reading_depth}
 use Rattle.m2m_value.specs.Sound.{IsSound}
 use Rattle.m2m_value.specs.Spelling.{text_of}
 use Rattle.m2m_value.proofs.RoundTrip.{reading-text_of}
@@ -24,7 +24,7 @@ use Rattle.primitive_json.specs.declared.reply.ReplyParts.{ReplyParts}
 use Rattle.m2m_names.proofs.NumeralLemmas.{own}
 use Rattle.http_frames.specs.declared.frame.Start.TheVariants.{Answer}
 use Rattle.http_frames.specs.declared.frame.Frame.{Frame}
-use Rattle.http_frames.specs.Lines.{Line, is_same_name, values_named}
+use Rattle.http_frames.specs.Lines.{is_same_name, values_named}
 use Rattle.http_target.specs.declared.fault.BindFault.{BindFault}
 use Rattle.http_target.specs.declared.fault.BindFault.TheVariants as bind
 use Rattle.http_binding.specs.Binding.{value_in, echo_of}

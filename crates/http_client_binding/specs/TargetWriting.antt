@@ -1,6 +1,6 @@
 -- The target of a request, of a URL and of the address of the request (TS-0009, 6.2.2; RFC 9112,
 -- section 3.2.1).
-use Rattle.std.specs.Prelude.{ℕ, ◌-◌, ◌==◌, nat_eq, List, [], ◌∷◌, ◌++◌, length, take, drop, codes}
+use Rattle.std.specs.Prelude.{ℕ, ◌-◌, ◌==◌, nat_eq, List, ◌∷◌, ◌++◌, length, take, drop, codes}
 use Rattle.std.specs.Prelude.{Bool, not, ◌&&◌, slice_index, if◌then◌else◌}
 use Rattle.std.specs.List.{starts_with}
 use Rattle.http_uri.specs.ByteClasses.{slash, question_mark, index_of, split_once_front}

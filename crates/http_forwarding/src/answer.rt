@@ -1,7 +1,5 @@
 //! What the bytes of an answer say.
-ghost use Rattle.std.specs.Prelude.{◌≡◌, ◌<◌, ◌≤◌, IfOk, IfSome, length, take, drop};
-ghost use Rattle.std.specs.Io.{ReadsAtMost};
-ghost use Rattle.std.specs.Io.KnownBytes.{ReadConsumes};
+ghost use Rattle.std.specs.Prelude.{◌≡◌, ◌<◌, ◌≤◌, IfOk, length, take, drop};
 ghost use Rattle.http_forwarding.specs.Answers.{IsLoneFrame, ReadsAnswer, SaysIn};
 
 use crate::OutOfMemory;

@@ -38,7 +38,8 @@ use Rattle.journal_opening.specs.declared.fault.OpeningFault.{OpeningFault}
 use Rattle.journal_opening.specs.declared.fault.OpeningFault.TheVariants.{NoHeader, OtherFormat}
 use Rattle.journal_opening.specs.declared.fault.OpeningFault.TheVariants.{OtherHome, BadLine}
 use Rattle.journal_opening.specs.declared.fault.OpeningFault.TheVariants.{BadSnapshot, Unsound}
-use Rattle.journal_opening.specs.declared.fault.OpeningFault.TheVariants.{Failed, OutOfMemory}
+use Rattle.journal_opening.specs.declared.fault.OpeningFault.TheVariants.{OldDeed, Failed}
+use Rattle.journal_opening.specs.declared.fault.OpeningFault.TheVariants.{OutOfMemory}
 use Rattle.journaled_entity.specs.Keeping.{KeepsEntity}
 use Rattle.journaled_entity.specs.Opened.{OpensAt}
 use Rattle.journaled_server.specs.Sending.{SendsThenTakes, sender}
@@ -114,6 +115,7 @@ refusal OtherHome = BadStream
 refusal (BadSnapshot number) = BadStream
 refusal Unsound = BadStream
 refusal (BadLine number) = BadStream
+refusal (OldDeed number) = BadStream
 refusal Failed = ReadFault
 refusal OutOfMemory = Memory
 

@@ -18,6 +18,7 @@ use journaled_entity::{Unopened, open_kept};
 use kept_file::NamedFile;
 use m2m_io::{Clock, Door, Link, Sink, Source, Status};
 use resource_tree::IndexTree;
+use service_observer::{ItemObserver, ReplyObserver};
 use std::alloc::{AllocError as OutOfMemory, Global};
 use std::sync::Wait;
 use std::thread::Threads;
@@ -33,10 +34,19 @@ pub(crate) fn refusal(fault: OpeningFault) -> Status
         | OpeningFault::OtherHome
         | OpeningFault::BadSnapshot(_)
         | OpeningFault::Unsound
-        | OpeningFault::BadLine(_) => Status::BadStream,
+        | OpeningFault::BadLine(_)
+        | OpeningFault::OldDeed(_) => Status::BadStream,
         OpeningFault::Failed => Status::ReadFault,
         OpeningFault::OutOfMemory => Status::Memory,
     }
+}
+
+/// Why the journal of this name isn't opened, which another program wrote, and what is to be done.
+fn of_another(alloc: Global, name: &str, what: &str) -> Result<String, OutOfMemory> {
+    let how = "by the program that wrote it, with the server's options, and start this one";
+    format!(in alloc;
+        "cannot open {name}: {what}: end the server, run `cse snapshot {name}` {how}\n"
+    )
 }
 
 /// Why the journal of this name isn't opened, as a line.
@@ -47,9 +57,7 @@ pub(crate) fn reason(
 ) -> Result<String, OutOfMemory> {
     match fault {
         OpeningFault::NoHeader => format!(in alloc; "cannot open {name}: it is no journal\n"),
-        OpeningFault::OtherFormat => {
-            format!(in alloc; "cannot open {name}: it is a journal of another format\n")
-        }
+        OpeningFault::OtherFormat => of_another(alloc, name, "it is a journal of another format"),
         OpeningFault::OtherHome => {
             format!(in alloc; "cannot open {name}: it is the journal of another home\n")
         }
@@ -61,6 +69,10 @@ pub(crate) fn reason(
         }
         OpeningFault::BadLine(number) => {
             format!(in alloc; "cannot open {name}: line {number} is no deed of a journal\n")
+        }
+        OpeningFault::OldDeed(number) => {
+            let what = format!(in alloc; "line {number} is a deed of the format 1")?;
+            of_another(alloc, name, what.as_str())
         }
         OpeningFault::Failed => format!(in alloc; "cannot open {name}: the file failed\n"),
         OpeningFault::OutOfMemory => format!(in alloc; "cannot open {name}: out of memory\n"),
@@ -78,7 +90,16 @@ fn refuse<E: Sink>(alloc: Global, err: &mut E, name: &str, fault: OpeningFault) 
 }
 
 /// Does a task with an entity that was opened at its journal. `http` and `serve` alone are done so.
-fn do_task<R, S: Source, O: Sink, E: Sink, D: Door + Send, C: Clock + Send, L: Link + Send, F>(
+fn do_task<
+    R,
+    S: Source,
+    O: Sink,
+    E: Sink,
+    D: Door + Send,
+    C: Clock + Send,
+    L: Link + ItemObserver + Send,
+    F,
+>(
     rt: &R,
     alloc: Global,
     task: Task,
@@ -91,6 +112,7 @@ where
     F: NamedFile + Send + Drop,
     D: Drop,
     C: Drop,
+    D::Conn: ReplyObserver,
     L: Drop,
     ensures { let told = outside_by S.left O.written O.puts C.readings
         (link_tells L.exchanges L.faults) in
@@ -130,7 +152,7 @@ pub fn run_journaled<
     E: Sink,
     D: Door + Send,
     C: Clock + Send,
-    L: Link + Send,
+    L: Link + ItemObserver + Send,
     F,
 >(
     rt: &R,
@@ -146,6 +168,7 @@ where
     F: NamedFile + Send + Drop,
     D: Drop,
     C: Drop,
+    D::Conn: ReplyObserver,
     L: Drop,
 
     // What is read of the file is what stands on the disk.

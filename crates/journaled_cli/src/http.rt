@@ -13,12 +13,13 @@ use journaled_server::{send_kept_alone, serve_kept_alone};
 use kept_file::NamedFile;
 use kept_object::KeptObject;
 use m2m_io::{Clock, Link, Sink, Source, Status};
+use service_observer::ItemObserver;
 use std::alloc::Global;
 use turn_desk::OwnSeat;
 
 /// Sends the items of the outbox of the entity at a seat. The status is this one, unless memory
 /// runs out.
-fn send_behind<F: NamedFile, C: Clock, L: Link>(
+fn send_behind<F: NamedFile, C: Clock, L: Link + ItemObserver>(
     alloc: Global,
     seat: &mut OwnSeat<KeptEntity<F>>,
     bench: &mut Bench<C, L>,
@@ -40,7 +41,7 @@ fn send_behind<F: NamedFile, C: Clock, L: Link>(
 
 /// What is done behind a connection that ended so: where it was closed, or what was left of it was
 /// no message, the items of the outbox are sent.
-fn finish<F: NamedFile, C: Clock, L: Link>(
+fn finish<F: NamedFile, C: Clock, L: Link + ItemObserver>(
     alloc: Global,
     seat: &mut OwnSeat<KeptEntity<F>>,
     bench: &mut Bench<C, L>,
@@ -78,7 +79,13 @@ pub(crate) fn status_of<O: Drop, F: NamedFile + Drop>(
 
 /// Serves input and output as one connection of an entity that is kept, and sends the items that
 /// this leaves in the outbox.
-pub(crate) fn serve_streams<F: NamedFile + Drop, S: Source, O: Sink, C: Clock, L: Link>(
+pub(crate) fn serve_streams<
+    F: NamedFile + Drop,
+    S: Source,
+    O: Sink,
+    C: Clock,
+    L: Link + ItemObserver,
+>(
     alloc: Global,
     object: KeptEntity<F>,
     input: &mut S,

@@ -16,6 +16,7 @@ use journaled_server::{LossDoor, LossSignal, serve_journaled};
 use kept_desk::{Report, Turn};
 use kept_file::NamedFile;
 use m2m_io::{Clock, Door, Link, Status};
+use service_observer::{ItemObserver, ReplyObserver};
 use std::alloc::Global;
 use std::sync::{Arc, Wait};
 use std::thread::Threads;
@@ -39,8 +40,9 @@ where
     R: Wait + Threads + Drop + Sync,
     O: Object<Event = Turn<KeptEvent>, Outcome = Report<KeptOutcome>> + Send + Drop,
     D: Door + Send + Drop,
+    D::Conn: ReplyObserver,
     C: Clock + Send + Drop,
-    L: Link + Send + Drop,
+    L: Link + ItemObserver + Send + Drop,
     requires benches { 2 ≤ vec_len benches }
     ensures served { let attends = AttendsKept TurnsGrow
         (conn_tells D.Conn.left D.Conn.written D.Conn.puts D.Conn.Source.faults
@@ -89,8 +91,9 @@ where
     R: Wait + Threads + Drop + Sync,
     F: NamedFile + Send + Drop,
     D: Door + Send + Drop,
+    D::Conn: ReplyObserver,
     C: Clock + Send + Drop,
-    L: Link + Send + Drop,
+    L: Link + ItemObserver + Send + Drop,
     requires { 2 ≤ vec_len benches }
     ensures { let attends = AttendsKept TurnsGrow
         (conn_tells D.Conn.left D.Conn.written D.Conn.puts D.Conn.Source.faults
@@ -120,8 +123,9 @@ where
     R: Wait + Threads + Clone + Drop + Sync,
     F: NamedFile + Send + Drop,
     D: Door + Send + Drop,
+    D::Conn: ReplyObserver,
     C: Clock + Send + Drop,
-    L: Link + Send + Drop,
+    L: Link + ItemObserver + Send + Drop,
     requires benches { 2 ≤ vec_len benches }
     ensures { let attends = AttendsKept TurnsGrow
         (conn_tells D.Conn.left D.Conn.written D.Conn.puts D.Conn.Source.faults

@@ -9,7 +9,7 @@ use Rattle.notify_outbox.specs.declared.item.Item.{Item}
 use Rattle.turn_desk.specs.Entries.{Marked, entry_of}
 use Rattle.turn_desk.specs.Growth.{Asks}
 use Rattle.kept_desk.specs.declared.turn.Answer.{Answer}
-use Rattle.kept_desk.specs.declared.turn.Answer.TheVariants.{Kept, Lost}
+use Rattle.kept_desk.specs.declared.turn.Answer.TheVariants.{Kept}
 use Rattle.journal_events.specs.declared.event.KeptEvent.{KeptEvent}
 use Rattle.journal_events.specs.declared.event.KeptEvent.TheVariants.{Next, Sent}
 use Rattle.journal_events.specs.declared.event.KeptOutcome.{KeptOutcome}
@@ -96,8 +96,8 @@ module _ {S : Type 0} (grown : S → List (Marked KeptEvent (Answer KeptOutcome)
     pub carries : CarriesNow whole item.note old between
     pub says : AsksNow (Sent item.number) answer between new
 
-  -- The item that is to be sent next was looked at. Then it was carried, and then the seat said that
-  -- it is sent.
+  -- The item that is to be sent next was looked at. Then it was carried, and then the seat said
+  -- that it is sent.
   pub record SendsItem (item : Item) (whole : Bool) (answer : Answer KeptOutcome)
       (old new : Sender S) : Type 0 where
     pub looked : Sender S

@@ -50,8 +50,8 @@ abbrev pub AttendsKept : {S X C L : Type 0}
     → S → X → Bench C L → S → Attended X → Bench C L → Type 0
 AttendsKept grown conn clock link = Attends (AnswersGrown grown) conn clock link
 
--- By one call of `send_kept` items that waited in an outbox were sent at a seat, with what lies at a
--- bench, and behind each the seat said so. This came of it.
+-- By one call of `send_kept` items that waited in an outbox were sent at a seat, with what lies at
+-- a bench, and behind each the seat said so. This came of it.
 pub record SendsKept {S C L : Type 0}
     (grown : S → List (Marked (Turn KeptEvent) (Report KeptOutcome)) → S → Type 0)
     (clock : C → Option (List ℕ)) (link : L → LinkTold)

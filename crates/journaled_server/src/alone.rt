@@ -13,6 +13,7 @@ use desk_replies::Replier;
 use journal_events::{KeptEvent, KeptOutcome};
 use kept_desk::{KeptDesk, Report, Turn};
 use m2m_io::{Clock, Connection, Link};
+use service_observer::{ItemObserver, ReplyObserver};
 use std::alloc::{AllocError as OutOfMemory, Global};
 use turn_desk::{Object, OwnDesk, OwnSeat};
 
@@ -28,7 +29,7 @@ pub fn serve_kept_alone<O, X, C, L, W>(
 ) -> Ended
 where
     O: Object<Event = Turn<KeptEvent>, Outcome = Report<KeptOutcome>>,
-    X: Connection,
+    X: Connection + ReplyObserver,
     C: Clock,
     L: Link,
     W: Replier,
@@ -65,7 +66,7 @@ pub fn send_kept_alone<O, C, L>(
 where
     O: Object<Event = Turn<KeptEvent>, Outcome = Report<KeptOutcome>>,
     C: Clock,
-    L: Link,
+    L: Link + ItemObserver,
     ensures { SendsThenTakes (KeptGrown (IsOwnRun O.step))
         (sender seat.old (C.readings clock.old)
         (link_told (L.exchanges link.old) (L.faults link.old)))

@@ -6,7 +6,8 @@ ghost use Rattle.journaled_server.specs.Sending.{CarriesNote};
 use cse_server::send_to;
 use m2m_io::Link;
 use notify_outbox::Item;
-use std::alloc::{AllocError as OutOfMemory, Global};
+use service_observer::ItemObserver;
+use std::alloc::Global;
 
 /// An item that was carried, or for which memory ran out then. Carrying alone makes one, so who has
 /// one may say that the item is sent.
@@ -33,7 +34,7 @@ impl Carried {
 }
 
 /// Carries an item where it is to go.
-pub(crate) fn carry<L: Link>(alloc: Global, link: &mut L, item: Item) -> Carried
+pub(crate) fn carry<L: Link + ItemObserver>(alloc: Global, link: &mut L, item: Item) -> Carried
     ensures number { result.number ≡ item.number }
     ensures carries { CarriesNote result.whole item.note
         (link_told (L.exchanges link.old) (L.faults link.old))

@@ -11,6 +11,7 @@ use journal_events::{KeptEvent, KeptOutcome};
 use kept_desk::Answer;
 use m2m_io::{Clock, Link};
 use notify_outbox::Item;
+use service_observer::ItemObserver;
 use std::alloc::{AllocError as OutOfMemory, Global};
 use turn_desk::Desk;
 
@@ -94,7 +95,7 @@ fn send_item<D, C, L>(
 where
     D: Desk<Event = KeptEvent, Outcome = Answer<KeptOutcome>>,
     C: Clock,
-    L: Link,
+    L: Link + ItemObserver,
     requires { D.seats desk.now seat.old }
     ensures seats { D.seats desk.now seat.new }
     ensures sends { SendsLooked D.grown item
@@ -127,7 +128,7 @@ pub fn send_kept<D, C, L>(
 where
     D: Desk<Event = KeptEvent, Outcome = Answer<KeptOutcome>>,
     C: Clock,
-    L: Link,
+    L: Link + ItemObserver,
     requires { D.seats desk.now seat.old }
     ensures seats { D.seats desk.now seat.new }
     ensures sends { SendsThenTakes D.grown

@@ -8,42 +8,27 @@ ghost use Rattle.workers.specs.Serving.{EndsServing};
 
 use crate::{LossSignal, PlainDesk, send_kept};
 use change_signal::{ChangeSignal, SignallingDesk, Watch};
-use cse_machine::Event;
-use cse_server::Bench;
+use cse_server::{Bench, OfRequests};
 use desk_replies::Binding;
 use gathering_desk::{Gathering, GatheringDesk};
 use journal_events::{KeptEvent, KeptOutcome};
 use kept_desk::{KeptDesk, Report, Turn};
 use m2m_io::{Clock, Door, Link};
-use primitive_json::retrieves;
+use service_observer::ItemObserver;
 use std::alloc::Global;
 use std::sync::Wait;
 use std::thread::Threads;
 use turn_desk::{Desk, DeskSeat, Object, TurnDesk};
 use workers::{Errand, ServeFault, Service, serve_with};
 
-/// Whether the event may change what is asked: requests may, all but a Retrieve.
-fn is_change(event: &Event) -> bool {
-    match event {
-        Event::Ask(request) => !retrieves(request.parts().op),
-        Event::Take | Event::Tick => false,
-    }
-}
-
-/// Requests may change what is asked, and who sends waits for nobody.
+/// Requests may change what is asked, as `OfRequests` says, and who sends waits for nobody.
 #[derive(Drop)]
-struct OfRequests;
+struct OfKeptRequests;
 
-impl Watch<Event> for OfRequests {
-    fn may_change(&self, event: &Event) -> bool {
-        is_change(event)
-    }
-}
-
-impl Watch<KeptEvent> for OfRequests {
+impl Watch<KeptEvent> for OfKeptRequests {
     fn may_change(&self, event: &KeptEvent) -> bool {
         match event {
-            KeptEvent::OfMachine(event) => is_change(event),
+            KeptEvent::OfMachine(event) => OfRequests.may_change(event),
             KeptEvent::Next | KeptEvent::Sent(_) => false,
         }
     }
@@ -88,7 +73,7 @@ where
 
     fn attend(&self, desk: &K, seat: &mut K::Seat, conn: X, bench: &mut Bench<C, L>) -> A {
         let Bench { clock, link } = bench;
-        let gathered = GatheringDesk::new(desk, self.gathering, self.rt, OfRequests);
+        let gathered = GatheringDesk::new(desk, self.gathering, self.rt, OfKeptRequests);
         let kept = KeptDesk::new(&gathered);
         let plain = PlainDesk::new(&kept, self.losses);
         let asked = SignallingDesk::new(&plain, self.changes, OfRequests);
@@ -123,7 +108,7 @@ where
     R: Wait,
     K: Desk<Event = Turn<KeptEvent>, Outcome = Report<KeptOutcome>>,
     C: Clock,
-    L: Link,
+    L: Link + ItemObserver,
 {
     ghost use Rattle.cse_server.specs.Attending.{link_tells};
     ghost use Rattle.journaled_server.specs.Serving.{SendsKept};
@@ -139,7 +124,7 @@ where
     // wait.
     fn run(&self, desk: &K, seat: &mut K::Seat, bench: &mut Bench<C, L>) {
         let Bench { clock, link } = bench;
-        let gathered = GatheringDesk::new(desk, self.gathering, self.rt, OfRequests);
+        let gathered = GatheringDesk::new(desk, self.gathering, self.rt, OfKeptRequests);
         let kept = KeptDesk::new(&gathered);
         let _ = send_kept(self.alloc, &kept, self.losses, seat, clock, link);
     }
@@ -165,7 +150,7 @@ where
     O: Object<Event = Turn<KeptEvent>, Outcome = Report<KeptOutcome>> + Send,
     D: Door + Send,
     C: Clock + Send + Drop,
-    L: Link + Send + Drop,
+    L: Link + ItemObserver + Send + Drop,
     A: Drop + Send,
     P: Binding<D::Conn, A> + Sync,
     requires benches { 2 ≤ vec_len benches }

@@ -1,5 +1,5 @@
 //! The requests, put one after another.
-ghost use Rattle.std.specs.Prelude.{◌≡◌, ◌≢◌, ◌<◌, ◌+◌, ◌-◌, ◌^◌, ◌≤◌, IfOk, OnOk, length};
+ghost use Rattle.std.specs.Prelude.{◌≡◌, ◌≢◌, ◌<◌, ◌-◌, IfOk, OnOk, length};
 ghost use Rattle.cse_server.specs.Outside.{EndsByFault, sink_told};
 ghost use Rattle.entity_model.specs.Opening.{opening};
 ghost use Rattle.resource_model.specs.Home.{default_home};

@@ -1,5 +1,5 @@
 //! The requests.
-ghost use Rattle.std.specs.Prelude.{◌≡◌, ◌<◌, ◌≤◌, ◌++◌, IfOk, IsUtf8, codes, get_or, length};
+ghost use Rattle.std.specs.Prelude.{◌≡◌, ◌<◌, ◌≤◌, IfOk, IsUtf8, get_or, length};
 ghost use Rattle.m2m_names.specs.Ids as ids;
 ghost use Rattle.made_input.specs.Requests as spec;
 

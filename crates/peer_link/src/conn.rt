@@ -3,7 +3,11 @@ ghost use Rattle.std.specs.Prelude.{◌≡◌, [], Some};
 ghost use Rattle.m2m_io.specs.Counts.{no_calls, told_calls};
 ghost use Rattle.m2m_io.specs.Sides.{side_of};
 
+use http_frames::Frame;
+use http_target::BindFault;
 use m2m_io::{Connection, Failed, MemSink, MemSource, Sink, Source};
+use primitive_json::Reply;
+use service_observer::ReplyObserver;
 use std::alloc::Global;
 
 /// A connection in memory that is read from a source and written to a sink.
@@ -60,4 +64,10 @@ impl Connection for MemPair {
     ghost use Rattle.std.specs.Prelude.{refl};
 
     ghost keeps_sides = { record { read = λ c. refl; put = λ c. refl } };
+}
+
+impl ReplyObserver for MemPair {
+    fn replied(&self, _: &Frame, _: Option<&BindFault>, _: &Reply) {}
+
+    fn refused(&self, _: &Reply) {}
 }

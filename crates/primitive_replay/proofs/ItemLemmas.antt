@@ -1,5 +1,5 @@
 -- The items that are left in the outbox, written behind the lines.
-use Rattle.std.proofs.Common.{◌≡◌, ◌≢◌, ℕ, ◌+◌, ◌<◌, ◌∙◌, List, [], ◌∷◌, ◌++◌, length, find, Option, Some, None, option_map, IfSome, ◌⊎◌, inl, inr, refl, sym, ap, subst, arith, append_assoc, append-nil, length-append}
+use Rattle.std.proofs.Common.{◌≡◌, ◌≢◌, ℕ, ◌+◌, ◌<◌, ◌∙◌, List, [], ◌∷◌, ◌++◌, length, find, Option, Some, None, option_map, ◌⊎◌, inl, inr, refl, sym, ap, subst, arith, append_assoc, append-nil, length-append}
 use Rattle.std.proofs.lemmas.Option.{same_Some}
 use Rattle.std.proofs.lemmas.Grind.{flat_map-append}
 use Rattle.cse_server.specs.Outside.{EndsByFault, LinkTold, Outside, Puts, PutsPart, SinkTold, outside}
@@ -12,7 +12,7 @@ use Rattle.notify_outbox.specs.Items.{is_item}
 use Rattle.notify_outbox.specs.Outbox.{without_first}
 use Rattle.notify_outbox.specs.declared.item.Item.{Item}
 use Rattle.entity_model.specs.Entity.{EntityData}
-use Rattle.primitive_replay.specs.Script.{Replays, StopsRightly, Writes, WritesBeforeItem, WritesReplies, WritesScript, lines_of_items, lines_of_replies, note_line, script}
+use Rattle.primitive_replay.specs.Script.{Replays, Writes, WritesBeforeItem, WritesReplies, WritesScript, lines_of_items, lines_of_replies, note_line, script}
 use Rattle.primitive_replay.specs.Way.{PutsFront, ReplaysFrom, WritesText}
 
 -- ---- the first item

@@ -1,6 +1,5 @@
 -- What is told of the line at the front of a stream.
-use Rattle.std.proofs.Common.{◌≢◌, ℕ, ◌<◌, List, [], length, take, Option, None, Ok, Err, refl}
-use Rattle.std.proofs.KnownBytes.{prepend_known-end}
+use Rattle.std.proofs.Common.{◌≢◌, ℕ, ◌<◌, List, [], length, take, Option, Ok, Err}
 use Rattle.std.specs.Io.KnownBytes.{IsAtEnd, Keeps, prepend_known}
 use Rattle.std.specs.Str.Lines.{strip_carriage_return}
 use Rattle.primitive_replay.specs.Front.{end_of, HasNoEnd, IsFront}
@@ -8,7 +7,7 @@ use Rattle.primitive_replay.specs.Lines.{GivesLine, line_at}
 use Rattle.primitive_replay.specs.Stream.{NextIs}
 use Rattle.primitive_replay.specs.declared.fault.LineFault.{LineFault}
 use Rattle.primitive_replay.specs.declared.fault.LineFault.TheVariants.{Bad, ReadFault, OutOfMemory}
-use Rattle.primitive_replay.specs.declared.front.Front.TheVariants.{TooLong, End}
+use Rattle.primitive_replay.specs.declared.front.Front.TheVariants.{TooLong}
 use Rattle.primitive_replay.proofs.StandLemmas.{whole_bad, last_bad, long_bad}
 
 -- a line that ends here was judged, and isn't taken

@@ -15,7 +15,7 @@ use Rattle.cse_machine.specs.declared.event.Event.TheVariants.{Ask as AskEvent}
 use Rattle.desk_replies.proofs.RepliesLemmas.{gives-one}
 use Rattle.cse_server.proofs.PutLemmas.{puts_none, puts_nothing}
 use Rattle.primitive_replay.specs.Front.{HasNoEnd, held_limit}
-use Rattle.primitive_replay.specs.Script.{AsksLines, StopsRightly, WritesReplies, reply_line, lines_of_replies}
+use Rattle.primitive_replay.specs.Script.{AsksLines, StopsRightly, WritesReplies, reply_line}
 use Rattle.primitive_replay.specs.Lines.{line_at, line_read}
 use Rattle.primitive_replay.specs.Stream.{BeginsBadly, BeginsWithLines, BeginsWithTexts, LeadsOver, LeadsTo, NextIs, HoldsLittle, TakesOff}
 use Rattle.primitive_replay.specs.Way.{RepliesTo, ReplaysFrom, ReplaysUpTo, WritesOn, WritesText, TakesLine, fault_status}

@@ -15,7 +15,7 @@ use Rattle.cse_machine.specs.declared.event.Event.TheVariants.{Ask as AskEvent}
 use Rattle.cse_machine.specs.declared.event.Outcome.{Outcome}
 use Rattle.desk_replies.specs.Replies.{CarriesEach, GivesReply}
 use Rattle.primitive_replay.specs.Script.{AsksLines, StopsRightly, WritesAllButLast}
-use Rattle.primitive_replay.specs.Script.{WritesPartOfLast, WritesReplies, WritesScript}
+use Rattle.primitive_replay.specs.Script.{WritesPartOfLast, WritesReplies}
 use Rattle.primitive_replay.specs.Script.{lines_of_items, lines_of_replies, next_reading}
 use Rattle.primitive_replay.specs.Script.{reading_behind}
 use Rattle.primitive_replay.specs.Stream.{BeginsWithLines, LeadsTo}

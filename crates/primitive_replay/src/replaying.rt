@@ -3,7 +3,6 @@ ghost use Rattle.std.specs.Prelude.{◌≡◌, ◌≢◌, ◌+◌, ◌≤◌, No
 ghost use Rattle.std.specs.Io.KnownBytes.{prepend_known};
 ghost use Rattle.cse_server.specs.Outside.{EndsByFault, link_told, outside, sink_told};
 ghost use Rattle.entity_model.specs.Opening.{opening};
-ghost use Rattle.primitive_replay.specs.Front.{held_limit};
 ghost use Rattle.primitive_replay.specs.Lines.{most_lines};
 ghost use Rattle.primitive_replay.specs.Script.{Replays};
 ghost use Rattle.primitive_replay.specs.Way.{ReplaysFrom, ReplaysUpTo, TakesLine, fault_status};

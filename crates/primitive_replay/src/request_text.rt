@@ -1,5 +1,5 @@
 //! The text of a request that is let go.
-ghost use Rattle.std.specs.Prelude.{◌≡◌, ◌++◌, ◌∷◌, [], IfOk, IfSome, IsUtf8, OnOk, option_map};
+ghost use Rattle.std.specs.Prelude.{◌≡◌, ◌++◌, IfOk, IfSome, IsUtf8, OnOk, option_map};
 ghost use Rattle.m2m_names.specs.declared.operations.Op.TheVariants.{Notify};
 ghost use Rattle.m2m_value.specs.Spelling.{text_of};
 ghost use Rattle.primitive_json.specs.Requests.{IsSoundRequest, IsSoundWhen};

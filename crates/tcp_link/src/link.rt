@@ -13,6 +13,8 @@ use crate::connecting::{HostPort, addresses, connected, host_port_of};
 use crate::failing::{Destination, Failing};
 use devices::{Log, millis_now, time_left};
 use m2m_io::{Link, LinkFault};
+use primitive_json::Request;
+use service_observer::ItemObserver;
 use std::alloc::{AllocError, Global};
 use std::io::Eprint;
 use std::net::{Net, TcpListener, TcpStream};
@@ -371,5 +373,11 @@ where
                 Err(LinkFault::Failed)
             }
         }
+    }
+}
+
+impl<R: Clock + Eprint + Copy> ItemObserver for TcpLink<R> {
+    fn let_go(&self, request: &Request) {
+        self.log.say_nowhere(request);
     }
 }

@@ -1,4 +1,4 @@
-use Rattle.std.proofs.Common.{◌≡◌, refl, sym, ap, subst, ◌∙◌, inl, inr, rules}
+use Rattle.std.proofs.Common.{refl, ap, subst, ◌∙◌, inl, inr, rules}
 use Rattle.m2m_io.specs.declared.status.Status.TheVariants.{ReadFault, WriteFault}
 use Rattle.cse_server.specs.Outside.{EndsByFault, link_told, outside, sink_told}
 use Rattle.turn_desk.specs.Growth.{IsOwnRun}

@@ -1,4 +1,4 @@
-use Rattle.std.proofs.Common.{ℕ, List, Option, Some, None, sym, ap, ◌∙◌}
+use Rattle.std.proofs.Common.{ℕ, List, Some, None, sym, ap, ◌∙◌}
 use Rattle.m2m_names.specs.declared.codes.Rsc.TheVariants.{Internal}
 use Rattle.primitive_json.specs.declared.reply.ReplyParts.{ReplyParts}
 use Rattle.desk_replies.proofs.replying.starved_reply.Goals as goal

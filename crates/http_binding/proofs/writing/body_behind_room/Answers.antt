@@ -6,4 +6,4 @@ use Rattle.http_binding.proofs.writing.body_behind_room.Goals as goal
 pub returns-clause-body : goal.returns-clause-body
 returns-clause-body c =
     behind_room c.in_ok-text.text.items c.append_body.new.out.items (body_of c.args.content.now) head_room
-    c.in_ok-text.ensures c.in_ok-append_body.ensures
+    c.in_ok-text.ensures c.in_ok-append_body.ensures.ok

@@ -1,4 +1,4 @@
-use Rattle.std.proofs.Common.{sym, ap, ◌∙◌}
+use Rattle.std.proofs.Common.{ap, ◌∙◌}
 use Rattle.form_urlencoded.specs.Form.{append_pair}
 use Rattle.http_client_binding.proofs.QueryLemmas.{pair_more, pairs_end}
 use Rattle.http_client_binding.proofs.query.append_labels.Goals as goal

@@ -1,4 +1,4 @@
-use Rattle.std.proofs.Common.{◌≡◌, true, OnOk, Some, sym, subst}
+use Rattle.std.proofs.Common.{◌≡◌, true, OnOk, sym, subst}
 use Rattle.std.proofs.lemmas.Bool.{OnTrue_at}
 use Rattle.form_urlencoded.specs.Form.{append_pair, extend_pairs}
 use Rattle.http_client_binding.specs.QueryWriting.{pairs_at, moment_texts}

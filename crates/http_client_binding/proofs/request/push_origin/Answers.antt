@@ -1,4 +1,4 @@
-use Rattle.std.proofs.Common.{◌≡◌, ◌++◌, ◌∷◌, [], OnOk, Some, sym, subst}
+use Rattle.std.proofs.Common.{◌≡◌, ◌++◌, ◌∷◌, [], OnOk, sym, subst}
 use Rattle.http_binding.specs.Headers.{origin_field}
 use Rattle.http_client_binding.specs.Asking.{origin_lines}
 use Rattle.http_client_binding.proofs.request.push_origin.Goals as goal

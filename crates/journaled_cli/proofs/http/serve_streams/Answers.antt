@@ -1,4 +1,4 @@
-use Rattle.std.proofs.Common.{refl, sym, ap, rules}
+use Rattle.std.proofs.Common.{ap, rules}
 use Rattle.cse_server.specs.Outside.{link_told, outside, sink_told}
 use Rattle.turn_desk.specs.Growth.{IsOwnRun}
 use Rattle.journaled_server.specs.Serving.{AnswersGrown}

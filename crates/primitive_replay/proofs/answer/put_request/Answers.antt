@@ -1,5 +1,4 @@
 use Rattle.std.proofs.Common.{[], ◌∷◌, refl, sym, subst}
-use Rattle.m2m_io.specs.Link.{Carrying}
 use Rattle.cse_machine.specs.declared.event.Outcome.{Outcome}
 use Rattle.desk_replies.specs.Replies.{GivesReply}
 use Rattle.desk_replies.proofs.RepliesLemmas.{onward_goes}

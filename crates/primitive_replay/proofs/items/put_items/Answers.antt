@@ -1,9 +1,5 @@
-use Rattle.std.proofs.Common.{◌∙◌, List, refl, sym, ap, subst, arith}
-use Rattle.cse_server.specs.Outside.{sink_told}
+use Rattle.std.proofs.Common.{◌∙◌, sym, ap}
 use Rattle.m2m_io.specs.declared.status.Status.TheVariants.{WriteFault}
-use Rattle.notify_outbox.specs.declared.item.Item.{Item}
-use Rattle.primitive_replay.specs.Way.{PutsFront, WritesText}
-use Rattle.primitive_replay.specs.Script.{note_line}
 use Rattle.primitive_replay.proofs.ItemLemmas.{front_all, front_ends, front_more, fewer, is_none, taken_first, taken_none}
 use Rattle.primitive_replay.proofs.TurnLemmas.{ended_at_line, none_said}
 use Rattle.primitive_replay.proofs.items.put_items.Goals as goal

@@ -1,19 +1,18 @@
-use Rattle.std.proofs.Common.{sym, ap, ◌∙◌}
-use Rattle.std.specs.Result.{result_ok}
+use Rattle.std.proofs.Common.{sym, ◌∙◌}
 use Rattle.cse_server.proofs.TurnLemmas.{heard_none, heard_one}
 use Rattle.cse_server.proofs.connection.Answerer.reply_for.Goals as goal
 
-pub returns-in-Err-clause-hears : goal.returns-in-Err-clause-hears
-returns-in-Err-clause-hears g c =
-    let none = sym c.requires.asked ∙ ap result_ok c.in-Err.is in
+pub returns-in-None-clause-hears : goal.returns-in-None-clause-hears
+returns-in-None-clause-hears g c =
+    let none = sym c.requires.asked ∙ c.in-None.is in
     heard_none (g.W.Replier.rule c.args.self.now.replier.now) g.D.Desk.grown g.met.D.Desk.grown_by_nothing c.args.seat.now _ _ c.args.frame.now none
     c.refusal_of.result c.refusal_of.ensures
 
 pub id_of-id-requires : goal.id_of-id-requires
-id_of-id-requires g c = sym c.requires.asked ∙ ap result_ok c.in-Ok.is
+id_of-id-requires g c = sym c.requires.asked ∙ c.in-Some.is
 
-pub returns-clause-hears : goal.returns-clause-hears
-returns-clause-hears g c =
-    let some = sym c.requires.asked ∙ ap result_ok c.in-Ok.is in
-    heard_one (g.W.Replier.rule c.args.self.now.replier.now) g.D.Desk.grown c.args.seat.now c.reply.new.seat _ _ _ _ c.args.frame.now c.in-Ok.request some
+pub returns-in-Some-clause-hears : goal.returns-in-Some-clause-hears
+returns-in-Some-clause-hears g c =
+    let some = sym c.requires.asked ∙ c.in-Some.is in
+    heard_one (g.W.Replier.rule c.args.self.now.replier.now) g.D.Desk.grown c.args.seat.now c.reply.new.seat _ _ _ _ c.args.frame.now c.in-Some.request some
     c.reply.result c.reply.ensures.answers

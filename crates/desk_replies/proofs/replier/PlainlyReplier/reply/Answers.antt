@@ -1,4 +1,3 @@
-use Rattle.std.proofs.Common.{refl}
 use Rattle.desk_replies.proofs.AskingLemmas.{plainly_answers}
 use Rattle.desk_replies.proofs.replier.PlainlyReplier.reply.Goals as goal
 

@@ -1,0 +1,17 @@
+//! What is told of the work of a server, for who writes it down.
+//!
+//! A connection is a `ReplyObserver`, and what sends items is an `ItemObserver`. Each is told what
+//! was done once it was done, and answers nothing; no clause says what comes of it. The objects in
+//! memory let it pass.
+//!
+//! ```text
+//! conn.replied(&frame, None, &reply); // once the reply was written
+//! link.let_go(&request); // for which no host is known
+//! ```
+#![tactic(auto)]
+
+mod items;
+mod replies;
+
+pub use items::ItemObserver;
+pub use replies::ReplyObserver;

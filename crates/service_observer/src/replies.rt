@@ -1,0 +1,20 @@
+//! Replies that were written.
+use http_frames::Frame;
+use http_target::BindFault;
+use m2m_io::MemConn;
+use primitive_json::Reply;
+
+/// What is told of the replies of its connection.
+pub trait ReplyObserver {
+    /// The reply to a message was written. Where the message is no request, this is why.
+    fn replied(&self, frame: &Frame, fault: Option<&BindFault>, reply: &Reply);
+
+    /// The last reply was written, as what was read can be no message.
+    fn refused(&self, reply: &Reply);
+}
+
+impl ReplyObserver for MemConn {
+    fn replied(&self, _: &Frame, _: Option<&BindFault>, _: &Reply) {}
+
+    fn refused(&self, _: &Reply) {}
+}
