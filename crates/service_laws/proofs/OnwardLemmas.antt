@@ -377,5 +377,5 @@ goes_on_answered reading request before after url sent goes there left given now
       one.1,
       one.2,
       one.3,
-      λ reply sound carried. gives_told answer sent.rqi one.2 reply one.4 kind sound carried,
+      λ reply carried. gives_told answer sent.rqi one.2 reply one.4 kind one.5 carried,
     )

@@ -1,6 +1,6 @@
 -- The answer of another CSE to one request.
 use Rattle.service_laws.proofs.Words.{◌≡◌, ◌≢◌, ◌≤◌, ℕ, true, false, List, [], ◌∷◌, ◌++◌, length, map, if◌then◌else◌, Option, Some, None, Result, Ok, Err, IfSome, IsTrue, is_some, ◌⊎◌, inl, inr, refl, sym, ap, subst, ◌∙◌, append-nil, arith, cons_option, list_all, list_any, option_map, option_to_list, result_ok}
-use Rattle.service_laws.proofs.Terms.{Carrying, Exchange, made_in, ReplyParts, RequestParts, Runs, readings_of, events_of, outcomes_of, Frame, Request, BeginsWithFrame, BeginsWithFrames, HasNoFrame, reply_text, close_lines, content_lines, id_lines, request_frame, request_text, caller_lines, expiry_lines, host_field, origin_lines, host_of, Peer, Carried, handed_on, EntityData, History, Event, Ask, Outcome, Done, Forward, Item, Ticked, Starved, Step, Ended, Closed, NoFrame, asks_by, asks_to_close, closes, Says, SinkTold, sink_told, GivesReply, GivesReplies, RepliesBy, malformed, reply_for, request_in, requests_in, talk}
+use Rattle.service_laws.proofs.Terms.{Carrying, Exchange, made_in, ReplyParts, RequestParts, Runs, readings_of, events_of, outcomes_of, Frame, Request, BeginsWithFrame, BeginsWithFrames, HasNoFrame, reply_text, close_lines, content_lines, id_lines, request_frame, request_text, caller_lines, expiry_lines, host_field, origin_lines, host_of, Peer, Carried, handed_on, EntityData, History, Event, Ask, Outcome, Done, Forward, Item, Ticked, Starved, Step, Ended, Closed, NoFrame, ReadFault, WriteFault, Memory, asks_by, asks_to_close, closes, Says, SinkTold, sink_told, GivesReply, GivesReplies, RepliesBy, malformed, reply_for, request_in, requests_in, talk}
 use Rattle.service_laws.proofs.Facts.{cases_Bool, cond-true, cond-false, false≢true, true≢false, Grew-runs, one_reply, told_is_carried, none_some, same_Some, same_first}
 use Rattle.std.specs.Fmt.{decimal}
 use Rattle.m2m_value.specs.Data.{Data, depth}
@@ -24,6 +24,8 @@ use Rattle.http_binding.proofs.LawLemmas.{binds_to_kinds}
 use Rattle.http_client_binding.proofs.AskLemmas.{request_back}
 use Rattle.binding_laws.proofs.BoundLemmas.{bound_back}
 use Rattle.binding_laws.proofs.ToldLemmas.{none_told}
+use Rattle.cse_server.specs.Connection.{says_all}
+use Rattle.cse_server.specs.Talk.{SaySound}
 use Rattle.peer_link.specs.PeerTalk.{PeerTalks, answers_none, is_unanswered, unasked}
 use Rattle.service_laws.specs.Laws.{IsFaultless}
 use Rattle.service_laws.specs.Peers.{AnAnswerIsThePeers, AnswersBound, AnswersOnce, GivesTold, IsPeersAnswer, IsRefusedThere, RepliesAlone, TheRequestIsAnsweredThere, WhatBindsToNothingIsRefusedThere, WhatIsNoMessageIsRefusedThere}
@@ -61,6 +63,13 @@ closes_here sent url place = rw (asks sent url) refl
 whole_end : (ended : Ended) → (ended ≡ Closed) ⊎ (ended ≡ NoFrame) → IsFaultless ended
 whole_end ended (inl closed) = subst IsFaultless (sym closed) tt
 whole_end ended (inr none) = subst IsFaultless (sym none) tt
+
+all_said : (ended : Ended) → IsFaultless ended → says_all ended ≡ true
+all_said Closed whole = refl
+all_said NoFrame whole = refl
+all_said ReadFault whole = absurd whole
+all_said WriteFault whole = absurd whole
+all_said Memory whole = absurd whole
 
 -- and all of its talk was written
 written_all : (ended : Ended) (answer before text : List ℕ) (count : ℕ) (puts : Option ℕ) (new : SinkTold) → IsFaultless ended → new.written ≡ Some answer
@@ -284,12 +293,16 @@ module _ (sent : RequestParts) (url : List ℕ) (before after : EntityData) (giv
       (subst (λ (r : Option (List ℕ)). Tells (λ list. list ++ asks.readings) given r) talks.clock asks.clock)
       (subst (λ (rs : List RequestParts). GivesReplies rs asked.outcomes asked.replies asked.carried) requests asks.gives)
       (told_failed asked.carried talks.new.link.exchanges (carries_all asked.carried unasked talks.new.link asks.link).told) in
+      let sound : IfSome reply.pc IsSound =
+      subst (λ (rs : List ReplyParts). IfSome (reply_for frame (request_in frame) rs).pc IsSound) (sym plain.1)
+      (subst (λ (fs : List Frame). SaySound fs served.answers.replies) heard.0 (served.sound (all_said talks.ended whole_here))).0 in
       let kind : IsReplyOfKinds reply = told_kind frame (binding frame) before after given now talks.new.link reply refl (echo_kind sent url) answers in
       record {
         reply = reply;
         answers = answers;
         text = said;
-        gives = λ other sound carried. gives_told answer sent.rqi reply other said kind sound carried;
+        sound = sound;
+        gives = λ other carried. gives_told answer sent.rqi reply other said kind sound carried;
       }
 
   -- ---- where it is refused
@@ -360,4 +373,5 @@ answered_there sent url before after given now answer says talks =
       peers.reply,
       subst (λ (b : Result RequestParts BindFault). AnswersBound before after given now talks.new.link b (echo_of (request_frame sent url Peer)) peers.reply) back.2 peers.answers,
       peers.text,
+      peers.sound,
     )

@@ -142,10 +142,10 @@ pub record NonePolled (opening after : EntityData) (readings : List ℕ) (asked 
   pub none : NonePolls opening history after leaves
 
 -- Equal sights are served alike: so are two connections that are served by sound entities of which
--- an originator sees the same, where each request that was heard is by that originator, or isn't
--- served, whoever asks; where none of them polls; and where none but the last names policies or
--- rules. The entities have one shape for the originator afterwards; and it sees the same of what
--- they leave, where the last names none either.
+-- an originator sees the same, where each request that was heard is by that originator; where none
+-- of them polls; and where none but the last names policies or rules. The entities have one shape
+-- for the originator afterwards; and it sees the same of what they leave, where the last names none
+-- either.
 abbrev pub EqualSightsAreServedAlike : Type 0
 EqualSightsAreServedAlike =
     (left right after other : EntityData) (originator : List ℕ)

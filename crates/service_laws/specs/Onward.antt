@@ -3,7 +3,6 @@ use Rattle.std.specs.Prelude.{◌≡◌, ◌≤◌, ◌<◌, ◌^◌, ℕ, List,
 use Rattle.std.specs.Prelude.{IsTrue}
 use Rattle.std.specs.List.{AllByRecursion, list_all}
 use Rattle.m2m_names.specs.Name.{originator_limit}
-use Rattle.m2m_value.specs.Sound.{IsSound}
 use Rattle.filter_criteria.specs.Conditions.{OfEachCondition, ValueOf}
 use Rattle.filter_criteria.specs.declared.condition.Sort.{Sort}
 use Rattle.filter_criteria.specs.declared.condition.Sort.TheVariants.{Moment, Count, Labels, Types}
@@ -69,8 +68,7 @@ WhatGoesOnSaysAll =
 
 -- Where the answer of the link is the talk of another CSE with its bytes, the reply is the one that
 -- the machine of that CSE gives the request that goes on, but for a filter without conditions,
--- which is none; and the caller gets it so, where its content is sound, as each value is that is
--- kept.
+-- which is none; and the caller gets it so.
 abbrev pub WhatGoesOnIsAnsweredThere : Type 0
 WhatGoesOnIsAnsweredThere =
     (reading : ℕ) (request : RequestParts) (before after : EntityData) (url : List ℕ)
@@ -79,5 +77,5 @@ WhatGoesOnIsAnsweredThere =
     → (talks : PeerTalks there left given now (request_text sent url Peer) answer)
     → (read : Option FilterParts) × AreAlike sent.fc read × (told : ReplyParts)
     × AnswersOnce there left given now talks.new.link (record sent { fc = read }) told
-    × ((reply : ReplyParts) → IfSome told.pc IsSound → Carried (Some answer) sent.rqi reply
+    × ((reply : ReplyParts) → Carried (Some answer) sent.rqi reply
     → GivesTold sent.rqi told reply)

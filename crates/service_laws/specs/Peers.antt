@@ -70,16 +70,14 @@ pub record GivesTold (rqi : List ℕ) (told reply : ReplyParts) : Type 0 where
   pub unread : ¬ (CanBeTold told) → reply ≡ unreached rqi
 
 -- The answer is one reply, which the entity gives what the frame is bound to, and which closes the
--- connection; and the caller gets it so, where its content is sound. Each value that the code keeps
--- is sound by its type. The definitions don't say so of an entity's values, so it isn't shown of a
--- reply.
+-- connection; its content is sound, and the caller gets it so.
 pub record IsPeersAnswer (before after : EntityData) (given now : Option (List ℕ))
     (link : LinkTold) (frame : Frame) (rqi answer : List ℕ) : Type 0 where
   pub reply : ReplyParts
   pub answers : AnswersBound before after given now link (binding frame) (echo_of frame) reply
   pub text : answer ≡ reply_text reply true
-  pub gives : (other : ReplyParts) → IfSome reply.pc IsSound → Carried (Some answer) rqi other
-      → GivesTold rqi reply other
+  pub sound : IfSome reply.pc IsSound
+  pub gives : (other : ReplyParts) → Carried (Some answer) rqi other → GivesTold rqi reply other
 
 -- Where the answer of a link is the talk of another CSE with the bytes that were sent for a
 -- request, and the frame of the request stands at the front of these, it is what the machine of
@@ -121,7 +119,7 @@ WhatIsNoMessageIsRefusedThere =
 
 -- Where the frame of the request says all that it has, and nothing that is read otherwise, the
 -- answer is one reply, which the machine of the other CSE gives that very request; but for a filter
--- without conditions, which is none.
+-- without conditions, which is none. Its content is sound.
 abbrev pub TheRequestIsAnsweredThere : Type 0
 TheRequestIsAnsweredThere =
     (sent : RequestParts) (url : List ℕ) (before after : EntityData)
@@ -130,4 +128,4 @@ TheRequestIsAnsweredThere =
     → (talks : PeerTalks before after given now (request_text sent url Peer) answer)
     → (read : Option FilterParts) × AreAlike sent.fc read × (reply : ReplyParts)
     × AnswersOnce before after given now talks.new.link (record sent { fc = read }) reply
-    × (answer ≡ reply_text reply true)
+    × (answer ≡ reply_text reply true) × IfSome reply.pc IsSound

@@ -1,7 +1,6 @@
 -- What another CSE answers to each request that goes on to it, whatever the request holds
 -- (TS-0001, 10.2.2).
-use Rattle.std.specs.Prelude.{◌≡◌, ℕ, ◌⊎◌, true, List, Option, Some, IfSome}
-use Rattle.m2m_value.specs.Sound.{IsSound}
+use Rattle.std.specs.Prelude.{◌≡◌, ℕ, ◌⊎◌, true, List, Option, Some}
 use Rattle.primitive_json.specs.Requests.{IsSoundRequest}
 use Rattle.primitive_json.specs.declared.reply.ReplyParts.{ReplyParts}
 use Rattle.primitive_json.specs.declared.request.RequestParts.{RequestParts}
@@ -51,14 +50,13 @@ abbrev pub BytesBindToNone : List ℕ → Type 0
 BytesBindToNone bytes = (asked : RequestParts) → ¬ (BytesBind bytes asked)
 
 -- The answer is one reply, which the machine of the other CSE gives this request; and the caller
--- gets it so, where its content is sound, as each value is that is kept.
+-- gets it so.
 pub record IsAnsweredThere (there left : EntityData) (given now : Option (List ℕ))
     (link : LinkTold) (asked : RequestParts) (rqi answer : List ℕ) : Type 0 where
   pub told : ReplyParts
   pub answers : AnswersOnce there left given now link asked told
   pub text : answer ≡ reply_text told true
-  pub gives : (reply : ReplyParts) → IfSome told.pc IsSound → Carried (Some answer) rqi reply
-      → GivesTold rqi told reply
+  pub gives : (reply : ReplyParts) → Carried (Some answer) rqi reply → GivesTold rqi told reply
 
 -- Where the answer of the link is the talk of another CSE with the bytes of a request that goes on,
 -- the bytes bind to a request, and it is what the machine of that CSE gives that request; or they

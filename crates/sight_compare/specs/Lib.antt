@@ -1,4 +1,3 @@
-pub mod Forms
 pub mod Looks
 pub mod Same
 pub mod Shown

@@ -17,7 +17,6 @@ mod attributes;
 mod homes;
 mod looks;
 mod resources;
-mod rights;
 mod rows;
 mod sights;
 mod stand_ins;

@@ -1,12 +1,12 @@
 //! Who looks at a tree, and what it may learn of a resource by its rights.
 ghost use Rattle.std.specs.Prelude.{◌≡◌};
 ghost use Rattle.equal_sights.specs.Seen as seen;
-ghost use Rattle.policy_eval.specs.Rights.{bits_by, has_bits};
+ghost use Rattle.policy_eval.specs.Rights.{bits_by};
 ghost use Rattle.policy_eval.specs.Rules.{fan_rules, rules_of};
 ghost use Rattle.sight_compare.specs.Looks as spec;
 
-use crate::rights::{bits, fan_bits};
 use m2m_names::{DISCOVERY_BIT, Op, Ty};
+use policy_eval::{bits, fan_bits, has_bits};
 use tree_model::{Home, Resource, Tree};
 
 /// An originator that looks at a tree, and the home of that tree.
@@ -30,12 +30,6 @@ pub struct Look {
     pub is_inside: bool,
     /// The resource is a group that it may change, or fan out to.
     pub uses: bool,
-}
-
-fn has_bits(had: u32, wanted: u32) -> bool
-    ensures { result ≡ has_bits had wanted }
-{
-    had & wanted == wanted
 }
 
 /// Whether these bits let an originator add to a resource, or change it.

@@ -7,9 +7,9 @@ ghost use Rattle.sight_compare.specs.Same.{same_place, same_resource, same_view}
 ghost use Rattle.sight_compare.specs.Shown.{IsGlance};
 
 use crate::looks::{Viewer, look_at};
-use crate::rights::is_same;
 use crate::rows::are_rows_alike;
 use crate::values::Glance;
+use policy_eval::is_same;
 use tree_model::{Resource, Tree, due};
 
 /// Whether two resources stand at one place: their numbers, types, names and parents are equal.

@@ -8,11 +8,10 @@ ghost use Rattle.sight_compare.specs.Shown as spec;
 
 use crate::attributes::{is_policy_rules, is_shown, is_way};
 use crate::looks::Look;
-use crate::rights::{rules_in, with_rules};
 use crate::stand_ins::{are_plain_rules, is_only_point};
 use m2m_names::{Attr, read_url};
 use m2m_value::Val;
-use policy_eval::listed_in;
+use policy_eval::{listed_in, rules_in, with_rules};
 use tree_model::{Home, Resource};
 
 /// A resource, with who looks at it and what it may learn.

@@ -1,5 +1,5 @@
 -- One line taken, and what stands next.
-use Rattle.std.proofs.Common.{◌≡◌, ℕ, ◌+◌, ◌≤◌, List, [], ◌∷◌, ◌++◌, length, Option, Some, None, option_to_list, IfSome, MatchOption, Ok, Err, true, inl, inr, refl, sym, ap, subst, arith, append-nil}
+use Rattle.std.proofs.Common.{◌≡◌, ℕ, ◌+◌, ◌≤◌, List, [], ◌∷◌, ◌++◌, length, Option, Some, None, option_to_list, IfSome, MatchOption, Err, inl, inr, refl, sym, ap, subst, arith, append-nil}
 use Rattle.std.specs.Io.KnownBytes.{IsAtEnd, prepend_known}
 use Rattle.std.specs.Str.Lines.{lines}
 use Rattle.m2m_io.specs.declared.status.Status.{Status}
@@ -14,7 +14,7 @@ use Rattle.primitive_replay.specs.declared.fault.LineFault.TheVariants.{Bad, Rea
 use Rattle.primitive_replay.proofs.TurnLemmas.{fault_bad, fault_keeps, little}
 use Rattle.twin_replay.specs.Forms.{is_asking}
 use Rattle.twin_replay.specs.Sides.{TakesLine}
-use Rattle.twin_replay.specs.Twins.{LosesOne, PutsEach, SaysLine, StandsBadly, Stops, TwinsFrom, TwinsUpTo, WritesTexts, end_status, next_form, told}
+use Rattle.twin_replay.specs.Twins.{PutsEach, SaysLine, Stops, TwinsFrom, TwinsUpTo, WritesTexts, end_status, next_form, told}
 use Rattle.twin_replay.specs.declared.lines.Part.{Part}
 use Rattle.twin_replay.specs.declared.lines.Part.TheVariants.{Before, LeftSide, RightSide, Asking}
 use Rattle.twin_replay.specs.declared.lines.TwinLine.{TwinLine}

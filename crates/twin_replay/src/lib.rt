@@ -21,3 +21,5 @@ mod sides;
 mod texts;
 
 pub use comparing::twin;
+pub use lines::{Part, TwinLine};
+pub use sides::Sides;

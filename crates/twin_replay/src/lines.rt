@@ -1,5 +1,5 @@
 //! What a line is, by where it stands.
-ghost use Rattle.std.specs.Prelude.{◌≡◌, IfOk, option_map};
+ghost use Rattle.std.specs.Prelude.{◌≡◌, IfOk};
 ghost use Rattle.twin_replay.specs.Forms as spec;
 
 use addressing::short_fr;
@@ -20,7 +20,7 @@ const AS: &str = "!as ";
 
 /// Which lines come next.
 #[derive(Drop)]
-pub(crate) enum Part {
+pub enum Part {
     /// The one that opens the left side.
     Before,
     /// Those that prepare the left side, and the one that opens the right side.
@@ -33,7 +33,7 @@ pub(crate) enum Part {
 
 /// What a line is.
 #[derive(Drop)]
-pub(crate) enum TwinLine {
+pub enum TwinLine {
     OpensLeft,
     PreparesLeft(Line),
     OpensRight,

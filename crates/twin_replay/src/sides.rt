@@ -21,12 +21,12 @@ use tree_model::Home;
 /// Two entities with one home, which lines come next for them, and the reading of the clock at
 /// which the next request is asked.
 #[derive(Drop)]
-pub(crate) struct Sides {
-    pub(crate) home: Home,
-    pub(crate) part: Part,
-    pub(crate) reading: u64,
-    pub(crate) left: Entity<IndexTree>,
-    pub(crate) right: Entity<IndexTree>,
+pub struct Sides {
+    pub home: Home,
+    pub part: Part,
+    pub reading: u64,
+    pub left: Entity<IndexTree>,
+    pub right: Entity<IndexTree>,
 }
 
 impl LineForm for Sides {

@@ -4,7 +4,6 @@ use Rattle.cse_machine.specs.declared.event.Event.TheVariants.{Tick}
 use Rattle.cse_machine.specs.declared.event.Outcome.TheVariants.{Ticked}
 use Rattle.twin_replay.specs.Sides.{later_last}
 use Rattle.twin_replay.specs.declared.lines.Part.TheVariants.{Asking}
-use Rattle.twin_replay.specs.declared.sides.Sides.{Sides}
 use Rattle.twin_replay.proofs.sides.compare.Goals as goal
 
 pub returns : goal.returns
