@@ -33,9 +33,10 @@ ask() {
 
 start "$in"
 start "$mn" --id id-mn --base cse-mn --type 2 --admin /id-in/CAdmin
-ask "$in" /cse-in?rcn=0 CAdmin 16 \
+# Each registers as itself and is named by its CSE-ID, so that it may have copies of its resources at the other one.
+ask "$in" /cse-in?rcn=0 /id-mn 16 \
     '{"m2m:csr":{"rn":"id-mn","csi":"/id-mn","cb":"/id-mn/cse-mn","poa":["http://'"$mn"'"],"rr":true}}'
-ask "$mn" /cse-mn?rcn=0 /id-in/CAdmin 16 \
+ask "$mn" /cse-mn?rcn=0 /id-in 16 \
     '{"m2m:csr":{"rn":"id-in","csi":"/id-in","cb":"/id-in/cse-in","poa":["http://'"$in"'"],"rr":true}}'
 
 # CAdmin asks the first CSE for the CSEBase of the second, where it is known as /id-in/CAdmin.

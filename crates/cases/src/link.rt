@@ -1,6 +1,8 @@
 //! The link of a case.
 use crate::came::push_exchange;
 use m2m_io::{Link, LinkFault, MemLink};
+use primitive_json::Request;
+use service_observer::ItemObserver;
 use std::alloc::Global;
 
 /// The link of a case, which gives its answers in order, and keeps what it was asked.
@@ -42,4 +44,8 @@ impl Link for CaseLink {
         push_exchange(alloc, &mut self.asked, host, request)?;
         self.answers.exchange(alloc, host, request, reply)
     }
+}
+
+impl ItemObserver for CaseLink {
+    fn let_go(&self, _: &Request) {}
 }
