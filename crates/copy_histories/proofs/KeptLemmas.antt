@@ -1,15 +1,14 @@
 -- The resources of a sound entity are such as copies follow.
-use Rattle.std.proofs.Common.{◌≡◌, ℕ, ◌<◌, List, [], ◌∷◌, true, Option, Some, None, refl, sym, ◌∙◌, arith}
+use Rattle.std.proofs.Common.{◌≡◌, ◌<◌, List, [], ◌∷◌, Some, None, refl, sym, ◌∙◌, arith}
 use Rattle.std.proofs.lemmas.Bool.{ltb-true}
 use Rattle.std.specs.Prelude.{nat_lt}
 use Rattle.m2m_names.specs.Ids.{count_bound}
-use Rattle.resource_model.specs.Home.{HomeData}
 use Rattle.resource_model.specs.Resource.{ResourceData}
-use Rattle.tree_model.specs.Tree.{at, is_tree, is_well_formed}
+use Rattle.tree_model.specs.Tree.{at}
 use Rattle.tree_model.proofs.GrowthLemmas.{stands, tree_from_well_formed}
 use Rattle.tree_model.proofs.QuietLemmas.{number_passes}
 use Rattle.attribute_rules.specs.Kinds.{are_kinds}
-use Rattle.copy_laws.specs.Following.{IsAlike, IsKept, IsOperation, nothing}
+use Rattle.copy_laws.specs.Following.{IsKept, IsOperation, nothing}
 use Rattle.copy_laws.proofs.KeptLemmas.{kept_from_kinds}
 use Rattle.copy_laws.proofs.RemovalLemmas.{under_container}
 use Rattle.entity_model.specs.Entity.{EntityData}

@@ -1,8 +1,8 @@
 -- What a Create, an Update, a Delete and an expiry do and tell is an operation by which copies
 -- follow.
 use Rattle.std.specs.Prelude.{nat_eq, ◌&&◌}
-use Rattle.std.proofs.Common.{◌≡◌, ℕ, ◌<◌, List, [], ◌∷◌, ◌++◌, map, Bool, true, false, not, Option, Some, None, inl, inr, refl, sym, ap, ◌∙◌, subst}
-use Rattle.std.proofs.lemmas.Bool.{cases_Bool, eqb-true, not-true}
+use Rattle.std.proofs.Common.{◌≡◌, ℕ, List, [], ◌∷◌, ◌++◌, Bool, true, false, not, Some, None, inl, inr, refl, sym, ap, ◌∙◌, subst}
+use Rattle.std.proofs.lemmas.Bool.{cases_Bool, eqb-true}
 use Rattle.std.proofs.lemmas.Option.{same_Some}
 use Rattle.std.specs.List.{filter, list_all, list_any}
 use Rattle.m2m_names.proofs.ListLemmas.{filter_same}
@@ -16,17 +16,16 @@ use Rattle.resource_model.specs.Resource.{ResourceData, has_number, is_ty}
 use Rattle.subscription_match.specs.Spending.{nodes_spent}
 use Rattle.subscription_match.specs.declared.drafts.DraftParts.{DraftParts}
 use Rattle.tree_model.specs.Changes.{those_of}
-use Rattle.tree_model.specs.Tree.{at, has, instance_size, is_at_or_below, is_due, is_numbered_in, is_spared, is_well_formed, line_of, live, numbers_of, overdue_numbers, replaced, restamped, restamped_at, standing, without, without_all}
+use Rattle.tree_model.specs.Tree.{at, has, instance_size, is_at_or_below, is_due, is_numbered_in, is_spared, is_well_formed, line_of, live, overdue_numbers, replaced, restamped, restamped_at, without, without_all}
 use Rattle.tree_model.proofs.GrowthLemmas.{fits_parts, has-without, next_above_parent, next_fits, tree_from_well_formed}
 use Rattle.tree_model.proofs.OrderLemmas.{placed_stands}
 use Rattle.tree_model.proofs.StampLemmas.{restamped_is}
 use Rattle.tree_model.proofs.StepLemmas.{not_not}
 use Rattle.tree_model.proofs.TreeLemmas.{at_number, filter_among}
 use Rattle.attribute_rules.specs.Kinds.{are_kinds}
-use Rattle.container_limits.specs.Limits.{evicted, limits_of}
+use Rattle.container_limits.specs.Limits.{limits_of}
 use Rattle.announce_copy.specs.Announced.{does_renew}
-use Rattle.copy_laws.specs.Following.{IsKept, IsOperation, IsQuiet, Lead, changed, does_lead, made, nothing, taken_with, value_in_copy}
-use Rattle.copy_laws.proofs.KeptLemmas.{kept_from_kinds}
+use Rattle.copy_laws.specs.Following.{IsOperation, Lead, changed, does_lead, made, nothing, taken_with, value_in_copy}
 use Rattle.copy_laws.proofs.LeadLemmas.{joining_operates, replacing_operates}
 use Rattle.copy_laws.proofs.OperationLemmas.{operation_stays}
 use Rattle.copy_changes.specs.Quiet.{PushesOut}
@@ -47,7 +46,7 @@ use Rattle.create_delete.proofs.InstanceLemmas.{grown_tree, pruning, there as co
 use Rattle.create_delete.proofs.PushingLemmas.{by_pushing}
 use Rattle.create_delete.proofs.ReplacedLemmas.{framed_replaced, replaced_by}
 use Rattle.create_delete.proofs.RightCreateLemmas.{lacks, last_there, older_there}
-use Rattle.copy_histories.proofs.KeptLemmas.{AreKept, are_kept, framed_kept}
+use Rattle.copy_histories.proofs.KeptLemmas.{are_kept, framed_kept}
 use Rattle.copy_histories.proofs.PlacedLemmas.{IsInstanceAt, evicted_stood, itself, same_type_there, still_stands}
 
 -- ---- what is spent behind an operation

@@ -1,6 +1,6 @@
 -- The operations on copies among what is appended to the outbox.
 use Rattle.std.specs.Prelude.{◌&&◌}
-use Rattle.std.proofs.Common.{◌≡◌, ℕ, List, [], ◌∷◌, ◌++◌, map, Bool, true, false, Option, Some, None, inl, inr, refl, sym, ap, ◌∙◌}
+use Rattle.std.proofs.Common.{◌≡◌, ℕ, List, [], ◌∷◌, ◌++◌, map, Bool, Option, inl, inr, refl, ap, ◌∙◌}
 use Rattle.std.proofs.lemmas.Bool.{cases_Bool}
 use Rattle.std.proofs.lemmas.List.Elements.{filter_map-append}
 use Rattle.std.specs.List.{cons_option, filter_map}
@@ -12,14 +12,14 @@ use Rattle.resource_model.specs.Resource.{ResourceData}
 use Rattle.tree_model.specs.Changes.{ChangeData}
 use Rattle.notify_outbox.specs.Items.{next_number, request_id, under_id}
 use Rattle.notify_outbox.specs.declared.item.Item.{Item}
-use Rattle.subscription_match.specs.Items.{item_of, items_of}
+use Rattle.subscription_match.specs.Items.{items_of}
 use Rattle.subscription_match.specs.Notices.{notes_of_all}
 use Rattle.subscription_match.specs.Spending.{kept}
 use Rattle.subscription_match.specs.declared.drafts.DraftParts.{DraftParts}
 use Rattle.announce_copy.specs.Copies.{CopyDraft, copies_of_all}
-use Rattle.announce_copy.specs.Items.{copy_note, copy_notes}
+use Rattle.announce_copy.specs.Items.{copy_notes}
 use Rattle.entity_model.specs.Entity.{copy_requests, items_from}
-use Rattle.machine_laws.specs.Outbox.{Account, Accounted, Waits, aged, aged_line, does_wait, given, is_too_old, noted, notes_told}
+use Rattle.machine_laws.specs.Outbox.{Account, Waits, aged, aged_line, does_wait, given, is_too_old, noted, notes_told}
 use Rattle.copy_histories.specs.Histories.{copies_in, copy_in, copy_in_note}
 use Rattle.copy_histories.proofs.RunLemmas.{bare}
 

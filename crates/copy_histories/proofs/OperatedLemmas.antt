@@ -1,5 +1,5 @@
 -- What a request on a resource does and appends leads to what it leaves.
-use Rattle.std.proofs.Common.{◌≡◌, ℕ, List, [], ◌∷◌, map, true, false, Option, Some, None, refl, sym, ap, ◌∙◌, subst}
+use Rattle.std.proofs.Common.{◌≡◌, ℕ, List, [], ◌∷◌, map, true, Option, Some, None, refl, sym, ap, ◌∙◌, subst}
 use Rattle.std.proofs.lemmas.Option.{same_Some}
 use Rattle.std.specs.List.{filter}
 use Rattle.std.specs.Option.{option_map_or}
@@ -42,7 +42,7 @@ use Rattle.change_laws.proofs.ServedLemmas.{serves_create, told_created, told_up
 use Rattle.group_fanout.specs.Operations.{change_effect, found_effect, operation_effect, relay_effect}
 use Rattle.group_fanout.specs.Rights.{claimed_originator}
 use Rattle.guard_laws.proofs.RelayLemmas.{relay_nodes}
-use Rattle.machine_laws.specs.Outbox.{change_notes, done_notes, found_items, found_notes, notes_told, operation_notes, relay_notes}
+use Rattle.machine_laws.specs.Outbox.{change_notes, done_notes, found_items, notes_told, operation_notes, relay_notes}
 use Rattle.copy_histories.proofs.KeptLemmas.{stays_still}
 use Rattle.copy_histories.proofs.LeadingLemmas.{deleting_told, joining_told, updating_told}
 use Rattle.copy_histories.proofs.NoteLemmas.{copies_in_items, copies_in_notes, items_in, told_in}

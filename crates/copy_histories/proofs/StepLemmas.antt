@@ -1,11 +1,9 @@
 -- A step leads to what it leaves, and what it sends is what it appends.
-use Rattle.std.specs.Prelude.{◌⊎◌}
-use Rattle.std.proofs.Common.{◌≡◌, ℕ, List, [], ◌∷◌, ◌++◌, append_assoc, take, true, Option, Some, None, inl, inr, refl, sym, ap, ◌∙◌, subst}
+use Rattle.std.proofs.Common.{◌≡◌, ℕ, List, [], ◌∷◌, ◌++◌, append_assoc, take, Option, Some, None, inl, inr, refl, sym, ap, ◌∙◌, subst}
 use Rattle.std.proofs.lemmas.List.{append-nil}
 use Rattle.std.proofs.Math.Seq.{take-nil}
 use Rattle.std.specs.Option.{option_map_or}
 use Rattle.primitive_json.specs.declared.request.RequestParts.{RequestParts}
-use Rattle.resource_model.specs.Home.{HomeData}
 use Rattle.resource_model.specs.Resource.{ResourceData}
 use Rattle.subscription_match.specs.Notices.{notes_of_all}
 use Rattle.tree_model.specs.Changes.{those_of}
@@ -19,7 +17,7 @@ use Rattle.entity_model.specs.Entity.{EntityData, event_moment, expired, swept}
 use Rattle.entity_model.specs.Expiry.{expiry_changes}
 use Rattle.entity_model.specs.Sound.{IsSoundEntity}
 use Rattle.entity_model.proofs.TellingLemmas.{sound_swept}
-use Rattle.group_fanout.specs.Fan.{after_members, requests_to}
+use Rattle.group_fanout.specs.Fan.{after_members}
 use Rattle.cse_machine.specs.declared.event.Event.{Event}
 use Rattle.cse_machine.specs.declared.event.Event.TheVariants.{Ask, Take, Tick}
 use Rattle.cse_machine.specs.declared.event.Outcome.{Outcome}
@@ -27,7 +25,7 @@ use Rattle.cse_machine.specs.declared.event.Outcome.TheVariants.{Done, Forward, 
 use Rattle.cse_machine.specs.declared.event.Outcome.TheVariants.{Starved, Ticked}
 use Rattle.cse_machine.specs.Answer.{effect_of}
 use Rattle.cse_machine.specs.Step.{IsCutShort, IsUnswept, Step, heard_members}
-use Rattle.guard_laws.proofs.CutLemmas.{Heard, IsHeardFan, a_fan, heard_by, no_fan, short_send}
+use Rattle.guard_laws.proofs.CutLemmas.{Heard, a_fan, heard_by, no_fan, short_send}
 use Rattle.guard_laws.proofs.HistoryLemmas.{onward_leaves}
 use Rattle.guard_laws.proofs.MemberLemmas.{take_requests}
 use Rattle.guard_laws.proofs.WayLemmas.{member_addresses}
@@ -35,7 +33,7 @@ use Rattle.machine_laws.specs.Outbox.{Account, AccountStep, aged, channel_polled
 use Rattle.copy_histories.specs.Histories.{AreThese, StandStep, copies_in, member_trees, request_trees, stood_through}
 use Rattle.copy_histories.proofs.LeadingLemmas.{expiring_told}
 use Rattle.copy_histories.proofs.MemberLemmas.{members_go}
-use Rattle.copy_histories.proofs.NoteLemmas.{aged_in, copies_in_items, copies_in_notes, given_in, items_in, noted_in}
+use Rattle.copy_histories.proofs.NoteLemmas.{aged_in, copies_in_items, given_in, items_in, noted_in}
 use Rattle.copy_histories.proofs.OperatedLemmas.{GoesTo, tells}
 use Rattle.copy_histories.proofs.RequestLemmas.{appended, request_leads}
 use Rattle.copy_histories.proofs.RunLemmas.{Goes, goes_nowhere, goes_on}
@@ -61,11 +59,9 @@ module _ (reading : ℕ) (e : EntityData) where
 
 -- ---- a step
 
--- what a step makes of an account, the trees that it leaves one after another, and that what it
--- appends is what it sends
-pub record Steps (reading : ℕ) (event : Event) (before : EntityData) (outcome : Outcome) (after : EntityData) (account : Account) : Type 0 where
-  pub next : Account
-  pub goes : AccountStep reading event before outcome after account next
+-- what a step that makes this of an account sends, which is what it appends, and the trees that it
+-- leaves one after another
+pub record Steps (reading : ℕ) (event : Event) (before : EntityData) (outcome : Outcome) (after : EntityData) (account next : Account) : Type 0 where
   pub sent : List CopyDraft
   pub trees : List (List ResourceData)
   pub run : Goes before.home before.nodes after.nodes sent trees
@@ -129,20 +125,18 @@ module _ (reading : ℕ) (before : EntityData) (account : Account) (sound : IsSo
             (subst Cut (sym (take_requests done addresses request))
             (members_go e.home request (take done addresses) e (short_send e request fan) (record { sound = e_sound; home_is = refl })))
 
-    pub short_goes : (done : ℕ) (after : EntityData) → IsCutShort e request done after → Steps reading (Ask request) before (Starved done) after account
-    short_goes done after short =
+    pub short_goes : (done : ℕ) (after : EntityData) (next : Account) → IsCutShort e request done after → next ≡ short_account reading request before done account → Steps reading (Ask request) before (Starved done) after account next
+    short_goes done after next short goes =
         let members : List RequestParts = take done (heard_members e request) in
         let items : List Item = member_items e members in
         record {
-          next = short_account reading request before done account;
-          goes = inl (short, refl);
           sent = told ++ copies_in_items items;
           trees = e.nodes ∷ member_trees e members;
           run =
               subst (λ (x : EntityData). Goes before.home before.nodes x.nodes (told ++ copies_in_items items) (e.nodes ∷ member_trees e members)) (sym short.left)
               (behind (after_members e members) (copies_in_items items) (member_trees e members) (cut_goes done));
           appends =
-              noted_in items expired_next
+              ap copies_in goes ∙ noted_in items expired_next
               ∙ ap (λ (ds : List CopyDraft). ds ++ copies_in_items items) (expired_in reading before account)
               ∙ append_assoc (copies_in account) told (copies_in_items items);
           stands = λ peer stood upon these. inl (short, these);
@@ -153,86 +147,75 @@ unswept_run : (reading : ℕ) (before after : EntityData) (done : ℕ) → IsUns
 unswept_run reading before after done unswept =
     subst (λ (x : EntityData). Goes before.home before.nodes x.nodes [] []) (sym unswept.same) (goes_nowhere before.home before.nodes)
 
-pub step_goes : (reading : ℕ) (event : Event) (before after : EntityData) (outcome : Outcome) (account : Account) → IsSoundEntity before → Step reading event before outcome after → Steps reading event before outcome after account
-step_goes reading (Ask request) before after (Done reply) account sound step =
+unswept_in : (account next : Account) → next ≡ account → copies_in next ≡ copies_in account ++ []
+unswept_in account next same = ap copies_in same ∙ sym (append-nil (copies_in account))
+
+pub step_goes : (reading : ℕ) (event : Event) (before after : EntityData) (outcome : Outcome) (account next : Account) → IsSoundEntity before → Step reading event before outcome after → AccountStep reading event before outcome after account next → Steps reading event before outcome after account next
+step_goes reading (Ask request) before after (Done reply) account next sound step goes =
     let e : EntityData = swept reading before in
     record {
-      next = requested_account e request (expired_account reading before account);
-      goes = refl;
       sent = copies_in_items (expiry_items reading before) ++ copies_in_items (appended (channel_polled e request) (request_items e request));
       trees = e.nodes ∷ request_trees e request after;
       run = done_goes reading before account sound request after step.1;
-      appends = requested_in reading before account sound request;
+      appends = ap copies_in goes ∙ requested_in reading before account sound request;
       stands = λ peer stood upon these. these;
     }
-step_goes reading (Ask request) before after (Forward poa onward) account sound step =
+step_goes reading (Ask request) before after (Forward poa onward) account next sound step goes =
     let e : EntityData = swept reading before in
     record {
-      next = expired_account reading before account;
-      goes = refl;
       sent = copies_in_items (expiry_items reading before);
       trees = e.nodes ∷ [];
       run = alone reading before account sound after (ap (λ (x : EntityData). x.nodes) (onward_leaves reading request before after poa onward step));
-      appends = expired_in reading before account;
+      appends = ap copies_in goes ∙ expired_in reading before account;
       stands = λ peer stood upon these. these;
     }
-step_goes reading (Ask request) before after (Starved done) account sound step = elim step [
-  | inl short ↦ short_goes reading before account sound request done after short
+step_goes reading (Ask request) before after (Starved done) account next sound step goes = elim goes [
+  | inl short ↦ short_goes reading before account sound request done after next short.0 short.1
   | inr unswept ↦ record {
-    next = account;
-    goes = inr (unswept, refl);
     sent = [];
     trees = [];
-    run = unswept_run reading before after done unswept;
-    appends = sym (append-nil (copies_in account));
-    stands = λ peer stood upon these. inr (unswept, these);
+    run = unswept_run reading before after done unswept.0;
+    appends = unswept_in account next unswept.1;
+    stands = λ peer stood upon these. inr (unswept.0, these);
   }
 ]
-step_goes reading (Ask request) before after (Given sent) account sound step = absurd step
-step_goes reading (Ask request) before after Ticked account sound step = absurd step
-step_goes reading Take before after (Done reply) account sound step = absurd step
-step_goes reading Take before after (Forward poa onward) account sound step = absurd step
-step_goes reading Take before after (Given sent) account sound step =
+step_goes reading (Ask request) before after (Given sent) account next sound step goes = absurd step
+step_goes reading (Ask request) before after Ticked account next sound step goes = absurd step
+step_goes reading Take before after (Done reply) account next sound step goes = absurd step
+step_goes reading Take before after (Forward poa onward) account next sound step goes = absurd step
+step_goes reading Take before after (Given sent) account next sound step goes =
     let e : EntityData = swept reading before in
     record {
-      next = given (is_to_send e.nodes) (expired_account reading before account);
-      goes = refl;
       sent = copies_in_items (expiry_items reading before);
       trees = e.nodes ∷ [];
       run = alone reading before account sound after (ap (λ (x : EntityData). x.nodes) step.1);
-      appends = given_in (is_to_send e.nodes) (expired_account reading before account) ∙ expired_in reading before account;
+      appends = ap copies_in goes ∙ given_in (is_to_send e.nodes) (expired_account reading before account) ∙ expired_in reading before account;
       stands = λ peer stood upon these. these;
     }
-step_goes reading Take before after Ticked account sound step = absurd step
-step_goes reading Take before after (Starved done) account sound step = record {
-  next = account;
-  goes = (step, refl);
+step_goes reading Take before after Ticked account next sound step goes = absurd step
+step_goes reading Take before after (Starved done) account next sound step goes = record {
   sent = [];
   trees = [];
   run = unswept_run reading before after done step;
-  appends = sym (append-nil (copies_in account));
+  appends = unswept_in account next goes.1;
   stands = λ peer stood upon these. (step, these);
 }
-step_goes reading Tick before after (Done reply) account sound step = absurd step
-step_goes reading Tick before after (Forward poa onward) account sound step = absurd step
-step_goes reading Tick before after (Given sent) account sound step = absurd step
-step_goes reading Tick before after Ticked account sound step =
+step_goes reading Tick before after (Done reply) account next sound step goes = absurd step
+step_goes reading Tick before after (Forward poa onward) account next sound step goes = absurd step
+step_goes reading Tick before after (Given sent) account next sound step goes = absurd step
+step_goes reading Tick before after Ticked account next sound step goes =
     let e : EntityData = swept reading before in
     record {
-      next = expired_account reading before account;
-      goes = refl;
       sent = copies_in_items (expiry_items reading before);
       trees = e.nodes ∷ [];
       run = alone reading before account sound after (ap (λ (x : EntityData). x.nodes) step);
-      appends = expired_in reading before account;
+      appends = ap copies_in goes ∙ expired_in reading before account;
       stands = λ peer stood upon these. these;
     }
-step_goes reading Tick before after (Starved done) account sound step = record {
-  next = account;
-  goes = (step, refl);
+step_goes reading Tick before after (Starved done) account next sound step goes = record {
   sent = [];
   trees = [];
   run = unswept_run reading before after done step;
-  appends = sym (append-nil (copies_in account));
+  appends = unswept_in account next goes.1;
   stands = λ peer stood upon these. (step, these);
 }

@@ -6,15 +6,16 @@ use Rattle.primitive_json.specs.declared.note.Kind.{Kind}
 use Rattle.primitive_json.specs.declared.note.Kind.TheVariants.{Copy, Notification, Relay}
 use Rattle.primitive_json.specs.declared.note.NoteParts.{NoteParts}
 use Rattle.primitive_json.specs.declared.request.RequestParts.{RequestParts}
+use Rattle.resource_model.specs.Home.{HomeData, IsHome}
 use Rattle.resource_model.specs.Resource.{ResourceData}
 use Rattle.tree_model.specs.Tree.{at}
-use Rattle.notify_outbox.specs.declared.item.Item.{Item}
 use Rattle.announce_copy.specs.Copies.{CopyDraft}
 use Rattle.announce_copy.specs.Peers.{listed_peers}
 use Rattle.copy_laws.specs.Following.{DoFollow, no_instance}
 use Rattle.copy_laws.specs.Replica.{replica}
 use Rattle.copy_laws.specs.Standing.{Instances, stood_after}
 use Rattle.entity_model.specs.Entity.{EntityData, swept}
+use Rattle.entity_model.specs.Opening.{opening}
 use Rattle.entity_model.specs.Sound.{IsSoundEntity}
 use Rattle.group_fanout.specs.Fan.{member_effect}
 use Rattle.cse_machine.specs.declared.event.Event.{Event}
@@ -24,7 +25,7 @@ use Rattle.cse_machine.specs.declared.event.Outcome.TheVariants.{Done, Forward, 
 use Rattle.cse_machine.specs.declared.event.Outcome.TheVariants.{Starved, Ticked}
 use Rattle.cse_machine.specs.History.{History, HistoryLeaves}
 use Rattle.cse_machine.specs.Step.{IsCutShort, IsUnswept, Step, heard_members}
-use Rattle.machine_laws.specs.Outbox.{Account, AccountStep, Accounted}
+use Rattle.machine_laws.specs.Outbox.{Account, AccountStep, Accounted, waiting_of}
 
 -- ---- what was sent
 
@@ -70,8 +71,8 @@ abbrev pub stood_by : List ℕ → ℕ → EntityData → Instances → List (Li
 stood_by peer reading before stood trees =
     stood_through peer stood before.nodes ((swept reading before).nodes ∷ trees)
 
--- What instances stand behind a step: by the expiry, and by each operation of a request; where memory
--- runs out, by so many members of a fan-out, or by nothing, where it ran out in the expiry.
+-- What instances stand behind a step: by the expiry, and by each operation of a request; where
+-- memory runs out, by so many members of a fan-out, or by nothing, where it ran out in the expiry.
 abbrev pub StandStep : List ℕ → ℕ → Event → EntityData → Outcome → EntityData → Instances
     → Instances → Type 0
 StandStep peer reading (Ask request) before (Done reply) after stood next =
@@ -117,19 +118,28 @@ Stands peer before account stood (entry ∷ history) after final last =
 -- ---- the law
 
 -- What stands at a CSE follows the resources of this one, once all that was ever sent there is
--- carried out, in order.
-pub record AreCopied (peer : List ℕ) (opening : EntityData) (history : History) (e : EntityData)
+-- carried out, in order: what the account of all items has, of which the outbox holds those that
+-- wait.
+pub record AreCopied (peer : List ℕ) (before : EntityData) (history : History) (e : EntityData)
     : Type 0 where
   pub account : Account
   pub stood : Instances
-  pub steps : Stands peer opening [] no_instance history e account stood
+  pub steps : Stands peer before [] no_instance history e account stood
+  pub waits : e.items ≡ waiting_of account
   pub follow : DoFollow e.home peer stood e.nodes (replica peer (copies_in account))
 
 -- So it is after every history from a sound entity of which nothing is announced, and whose outbox
 -- is empty, as it is where one opens.
 abbrev pub CopiesFollowHistories : Type 0
 CopiesFollowHistories =
-    (peer : List ℕ) (opening e : EntityData) (history : History)
-    → is_cse_id peer ≡ true → IsSoundEntity opening → opening.items ≡ []
-    → ((r : ResourceData) → at r.number opening.nodes ≡ Some r → listed_peers r ≡ [])
-    → HistoryLeaves opening history e → AreCopied peer opening history e
+    (peer : List ℕ) (before e : EntityData) (history : History)
+    → is_cse_id peer ≡ true → IsSoundEntity before → before.items ≡ []
+    → ((r : ResourceData) → at r.number before.nodes ≡ Some r → listed_peers r ≡ [])
+    → HistoryLeaves before history e → AreCopied peer before history e
+
+-- And so it is after every history from a CSE as it opens.
+abbrev pub CopiesFollowFromOpenings : Type 0
+CopiesFollowFromOpenings =
+    (peer : List ℕ) (home : HomeData) (reading : ℕ) (e : EntityData) (history : History)
+    → is_cse_id peer ≡ true → IsHome home → HistoryLeaves (opening home reading) history e
+    → AreCopied peer (opening home reading) history e

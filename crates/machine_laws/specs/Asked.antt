@@ -66,7 +66,8 @@ DeletesTakeTheirTarget =
     × (after ≡ told_of Delete request target.number (swept reading before)
     (delete_effect (swept reading before) request target).after)
 
--- The next number rises by exactly as many as are new; a fan-out may take some of them again.
+-- Outside a fan-out the next number rises by exactly as many as are new. In a fan-out one member
+-- may push out what another created.
 abbrev pub NumbersRiseByWhatIsNew : Type 0
 NumbersRiseByWhatIsNew =
     (reading : ℕ) (request : RequestParts) (before after : EntityData) (reply : ReplyParts)

@@ -174,7 +174,7 @@ pub record Accounted : Type 0 where
   pub item : Item
   pub fate : Fate
 
--- all items that were ever appended, in order
+-- all items that were appended since the history began, in order
 abbrev pub Account : Type 0
 Account = List Accounted
 

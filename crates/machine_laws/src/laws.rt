@@ -58,8 +58,8 @@ pub fn what_may_be_served_is_served()
     ensures onward { WhatMayGoOnGoesOn }
 {}
 
-/// A step keeps the home and the moment of the event, and the next number rises by just as many as
-/// are new. A Create that is served adds exactly one resource under its target, an Update changes
+/// A step keeps the home and the moment of the event. Unless it is a fan-out, the next number rises
+/// by exactly as many as are new. A Create that is served adds exactly one resource under its target, an Update changes
 /// its target alone, and both remove at most instances of it; a Delete takes its target and what
 /// stands below that, and changes nothing else. What is changed so is then told, by which
 /// subscriptions that count are lowered, or go; and it is sent to where copies stand.

@@ -2,8 +2,8 @@
 //!
 //! No program stands on them. Each is the clause of a function without a body. A request changes
 //! what it asks for and nothing else. One that nothing speaks against is served, unless memory
-//! runs out. An originator is answered by no more than it sees, but for what polls show. After
-//! each entry of a legal history the outbox holds what was appended, less what was given away or
+//! runs out. An originator is answered by no more than it sees, but for what polls show. From a CSE
+//! with an empty outbox on, the outbox holds what was appended since, less what was given away or
 //! dropped. That nothing is shown or changed without a grant, and what a history leaves, stands in
 //! guard_laws. And in the tree with an index an address names its resource by at most one counted
 //! look-up for each of its segments (`resolve_by_index`).

@@ -3,7 +3,7 @@
 //! retrieve_discover, request_rules and create_delete, on which no program stands.
 //!
 //! What is named, shown and found is the same on the list as the originator sees it (`seen_list` of
-//! policy_laws). A Create and an Update are refused by the same place on what their originator
+//! equal_sights). A Create and an Update are refused by the same place on what their originator
 //! sees. In two sound entities, of which its originator sees the same, a Create is answered alike,
 //! and an Update that names no policies and no rules; and the originator sees the same of what they
 //! leave. One that names them is answered alike in two that have one shape for its originator, and
