@@ -4,10 +4,12 @@ It stands on Python's own library, as they do. `sys.dont_write_bytecode` before 
 import http.server
 import os
 import random
+import re
 import shutil
 import socket
 import subprocess
 import sys
+import tempfile
 import threading
 import time
 
@@ -75,12 +77,17 @@ def waits_for(port, process=None, seconds=30):
 
 
 class Server:
-    """`cse serve` with these words, at a free port or at this one."""
+    """`cse serve` with these words, at a free port or at this one. It runs under another program where that is given,
+    as `strace` and its words."""
 
-    def __init__(self, file, *words, port=0, **how):
+    def __init__(self, file, *words, port=0, under=(), **how):
         self.port = port or free_port()
         how = {"stdout": subprocess.DEVNULL, "stderr": subprocess.DEVNULL, **how}
-        self.process = subprocess.Popen([file, "serve", f"--listen={LOCAL}:{self.port}", *words], **how)
+        self.process = subprocess.Popen([*under, file, "serve", f"--listen={LOCAL}:{self.port}", *words], **how)
+        self.waits()
+
+    def waits(self):
+        """Waits until it listens."""
         waits_for(self.port, self.process)
 
     def end(self):
@@ -94,6 +101,38 @@ class Server:
     def kill(self):
         self.process.kill()
         self.process.wait()
+
+
+class Teller(Server):
+    """A server whose standard error goes into a file, unless it is told otherwise."""
+
+    def __init__(self, file, *words, **how):
+        self.told = tempfile.NamedTemporaryFile("r")
+        with open(self.told.name, "w") as errors:
+            super().__init__(file, *words, **{"stderr": errors, **how})
+
+    def text(self):
+        """All that it said."""
+        with open(self.told.name) as told:
+            return told.read()
+
+    def lines(self):
+        """What it said behind the line that it listens."""
+        return self.text().splitlines()[1:]
+
+    def descriptors(self):
+        """How many it has open."""
+        return len(os.listdir(f"/proc/{self.process.pid}/fd"))
+
+    def status(self, key):
+        """What the system says of it, as `Threads` and `VmRSS`."""
+        with open(f"/proc/{self.process.pid}/status") as status:
+            return int(re.search(rf"^{key}:\s+(\d+)", status.read(), re.M)[1])
+
+    def ticks(self):
+        """The processor time that it took so far, in hundredths of a second."""
+        with open(f"/proc/{self.process.pid}/stat") as stat:
+            return sum(map(int, stat.read().rsplit(")", 1)[1].split()[11:13]))
 
 
 class Listener:

@@ -13,7 +13,7 @@ import json
 import sys
 import urllib.parse
 
-UPDATED = 2004
+FOUND, UPDATED = 2000, 2004
 POLICY, AE, CONTAINER, GROUP = 1, 2, 3, 9  # what may be announced, and updated
 LISTED_AT_MOST = 4096
 
@@ -40,7 +40,9 @@ class Cse:
 
     def listed(self, kind):
         """The addresses of the resources of a type."""
-        _, content = self.ask('GET', f'{self.base}?fu=1&ty={kind}')
+        status, content = self.ask('GET', f'{self.base}?fu=1&ty={kind}')
+        if status != FOUND:
+            sys.exit(f'announce_anew: the discovery at {self.base} is answered {status}: name the addresses')
         found = content.get('m2m:uril', [])
         if len(found) >= LISTED_AT_MOST:
             print(f'announce_anew: {len(found)} of type {kind} are listed, and there may be more', file=sys.stderr)

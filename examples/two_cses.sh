@@ -18,6 +18,9 @@ start() {
         kill -0 $! || exit 1
         sleep 0.1
     done
+    # Another program may answer there already.
+    sleep 0.1
+    kill -0 $! || exit 1
 }
 
 # ask AT ADDRESS ORIGINATOR [TYPE CONTENT]: a Retrieve, or a Create of this type; what is answered is printed
