@@ -7,6 +7,7 @@ use Rattle.std.specs.List.{list_all, list_any}
 use Rattle.std.specs.Option.{option_map_or}
 use Rattle.m2m_names.proofs.TypeLemmas.{same_type}
 use Rattle.m2m_names.specs.Types.{does_take}
+use Rattle.m2m_names.specs.declared.attributes.Attr.{Attr}
 use Rattle.m2m_names.specs.declared.attributes.Attr.TheVariants.{At}
 use Rattle.m2m_names.specs.declared.types.Ty.{Ty}
 use Rattle.m2m_names.specs.declared.types.Ty.TheVariants.{ContentInstance}
@@ -16,7 +17,7 @@ use Rattle.policy_eval.specs.Rules.{listed_in, texts_of}
 use Rattle.resource_model.specs.Attributes.{value_of}
 use Rattle.resource_model.specs.Home.{HomeData}
 use Rattle.resource_model.specs.Resource.{ResourceData, has_number, is_ty}
-use Rattle.tree_model.specs.Changes.{deleted, deletion_changes}
+use Rattle.tree_model.specs.Changes.{created, updated, deleted, deletion_changes}
 use Rattle.tree_model.specs.Tree.{at, children_of, instances_of, is_at_or_below, is_taken, is_tree, is_under, is_well_formed, line_of, number_at, resource_number}
 use Rattle.tree_model.proofs.ChangeLemmas.{line_none}
 use Rattle.tree_model.proofs.GrowthLemmas.{stands, tree_from_well_formed}
@@ -70,6 +71,22 @@ no_peers nodes r none = elim (cases_Bool (is_ty r.ty ContentInstance)) [
     | inr f ↦ rw other (ap each_once (none_listed r f))
   ]
 ]
+
+-- what lists no CSE is announced to none
+pub unlisted_peers : (nodes : List ResourceData) (r : ResourceData) → lists_peers r ≡ false → peers_of nodes r ≡ []
+unlisted_peers nodes r none = no_peers nodes r (rw none refl)
+
+-- and nothing is sent for its creation,
+pub unsent_creation : (home : HomeData) (nodes : List ResourceData) (r : ResourceData) → lists_peers r ≡ false → copies_of home nodes (created r) ≡ []
+unsent_creation home nodes r none = rw (unlisted_peers nodes r none) refl
+
+-- for an Update behind which it lists none either,
+pub unsent_update : (home : HomeData) (nodes : List ResourceData) (r s : ResourceData) (named : List Attr) → lists_peers r ≡ false → lists_peers s ≡ false → copies_of home nodes (updated r s named) ≡ []
+unsent_update home nodes r s named before after = rw (unlisted_peers nodes r before, unlisted_peers nodes s after) refl
+
+-- or for its deletion
+pub unsent_deletion : (home : HomeData) (nodes : List ResourceData) (r : ResourceData) → lists_peers r ≡ false → copies_of home nodes (deleted r) ≡ []
+unsent_deletion home nodes r none = rw (unlisted_peers nodes r none) refl
 
 none_sent : (home : HomeData) (nodes : List ResourceData) (p : ResourceData → Bool) (rs : List ResourceData) → list_any (λ r. p r && may_announce nodes r) rs ≡ false → copies_of_all home nodes (map deleted (filter p rs)) ≡ []
 none_sent home nodes p [] none = refl

@@ -11,7 +11,8 @@ use m2m_names::{Attr, Ty};
 use policy_eval::listed_in;
 use tree_model::{Resource, Tree};
 
-fn lists_peers(resource: &Resource) -> bool
+/// Whether a resource lists a CSE in `at`: where not, it isn't announced, and no instance under it.
+pub fn lists_peers(resource: &Resource) -> bool
     ensures { result ≡ spec.lists_peers resource.now }
 {
     listed_in(resource.attrs().get(Attr::At))

@@ -1,14 +1,18 @@
 //! Which operations on copies follow a change.
-ghost use Rattle.std.specs.Prelude.{◌≡◌, ◌++◌, ◌∷◌, [], Some, None, IfOk, OnOk, IsUtf8, map};
+ghost use Rattle.std.specs.Prelude.{◌≡◌, ◌++◌, ◌∷◌, [], Some, None, false, IfOk, OnOk, IsUtf8};
+ghost use Rattle.std.specs.Prelude.{List, map};
 ghost use Rattle.std.specs.List.{filter_map};
 ghost use Rattle.m2m_names.specs.declared.operations.Op.TheVariants.{Create, Delete, Update};
 ghost use Rattle.announce_copy.specs.Announced as announced;
 ghost use Rattle.announce_copy.specs.Copies as spec;
 ghost use Rattle.announce_copy.specs.Copies.{AreAddressed};
 ghost use Rattle.announce_copy.specs.Peers.{AreNoted};
+ghost use Rattle.resource_model.specs.Home.{HomeData};
+ghost use Rattle.resource_model.specs.Resource.{ResourceData};
 ghost use Rattle.tree_model.specs.Changes.{change_of};
 
 use crate::announced::{copy_type, does_renew};
+use crate::below::lists_peers;
 use crate::contents::{copy_of, renewal_of};
 use crate::drafts::{CopyDraft, CopyDrafts};
 use crate::naming::{address_at, copy_path, parent_path};
@@ -321,9 +325,43 @@ pub fn copies<T: Tree>(
     Ok(CopyDrafts::of(drafts))
 }
 
-/// What is sent for an operation's changes, in their order. The tree is the one before the
-/// operation.
+// Whether something may be sent for a change: what it found, or what it leaves, lists a CSE in
+// `at`.
+fn may_send(change: Change<'_>) -> bool
+    ensures { result ≡ false → (home : HomeData) (nodes : List ResourceData)
+        → spec.copies_of home nodes (change_of change.entry) ≡ [] }
+{
+    match change {
+        Change::Created(new) => lists_peers(new),
+        Change::Updated { before, after, .. } => lists_peers(before) || lists_peers(after),
+        Change::Deleted(gone) => lists_peers(gone),
+    }
+}
+
+// What is sent for a change, and for those behind it.
 #[tactic(auto, using(crate::proofs::PeerLemmas::none_noted))]
+fn copies_from<T: Tree>(
+    alloc: Global,
+    tree: &T,
+    home: &Home,
+    first: Change<'_>,
+    others: Changes<'_, T>,
+) -> Result<CopyDrafts, OutOfMemory>
+    ensures { IfOk result (λ d. d
+        ≡ spec.copies_of home.now (T.nodes tree.now) (change_of first.entry)
+        ++ spec.copies_of_all home.now (T.nodes tree.now) others.entry) }
+{
+    let mut known = BTreeMap::new(alloc);
+    let mut drafts = Vec::new(alloc);
+    add_copies(alloc, tree, home, first, &mut known, &mut drafts)?;
+    for change in others {
+        add_copies(alloc, tree, home, change, &mut known, &mut drafts)?;
+    }
+    Ok(CopyDrafts::of(drafts))
+}
+
+/// What is sent for an operation's changes, in their order. The tree is the one before the
+/// operation. It takes no memory before the first change of a resource that lists a CSE in `at`.
 pub fn all_copies<T: Tree>(
     alloc: Global,
     tree: &T,
@@ -333,10 +371,11 @@ pub fn all_copies<T: Tree>(
     ensures { IfOk result (λ d. d
         ≡ spec.copies_of_all home.now (T.nodes tree.now) changes.entry) }
 {
-    let mut known = BTreeMap::new(alloc);
-    let mut drafts = Vec::new(alloc);
-    for change in changes {
-        add_copies(alloc, tree, home, change, &mut known, &mut drafts)?;
+    let mut left = changes;
+    while let Some(change) = left.next() {
+        if may_send(change) {
+            return copies_from(alloc, tree, home, change, left);
+        }
     }
-    Ok(CopyDrafts::of(drafts))
+    Ok(CopyDrafts::of(Vec::new(alloc)))
 }

@@ -60,6 +60,9 @@ pub fn copy_notes<T: Tree>(
     ensures { IfOk result (λ v. v.items
         ≡ spec.copy_notes home.now (T.nodes tree.now) drafts) }
 {
+    if drafts.entries().is_empty() {
+        return Ok(Vec::new(alloc));
+    }
     let mut items = Vec::with_capacity(alloc, drafts.entries().len())?;
     for draft in drafts.into_vec() {
         items.push(copy_note(alloc, tree, home, draft)?)?;

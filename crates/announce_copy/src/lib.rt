@@ -8,14 +8,16 @@
 //! announced only where its container was before the operation, since its copy stands below that of
 //! the container. `copies` makes the drafts of one change, and `all_copies` those of an operation;
 //! `copy_of` is the content of a Create. `copy_notes` makes items of the outbox of drafts.
-//! `announces_below` tells whether a deletion is announced at all. Each is exactly its definition
-//! in `specs/`, over the list of resources as it is before the operation.
+//! `announces_below` tells whether a deletion is announced at all, and `lists_peers` whether any
+//! change of a resource may be. Each is exactly its definition in `specs/`, over the list of
+//! resources as it is before the operation.
 //!
 //! Callers hand in the tree before the operation. A resource without `at` costs one look-up of an
-//! attribute, or two for an Update, and takes no memory. The CSE-IDs of a list are compared by way
-//! of a sorted set, and those of a container stand in one set for a whole operation, so that the
-//! cost is that of the items that are made and of the lists that are read. That memory runs out
-//! leaves everything as it was.
+//! attribute, or two for an Update, and takes no memory; nothing else is done before the first
+//! change of a resource that lists a CSE there. The CSE-IDs of a list are compared by way of a
+//! sorted set, and those of a container stand in one set for a whole operation, so that the cost is
+//! that of the items that are made and of the lists that are read. That memory runs out leaves
+//! everything as it was.
 //!
 //! ```text
 //! let changes = Changes::of_creation(tree, resource, pushed.entries());
@@ -34,7 +36,7 @@ mod naming;
 mod peers;
 
 pub use announced::{announceable, announced_type};
-pub use below::announces_below;
+pub use below::{announces_below, lists_peers};
 pub use contents::copy_of;
 pub use copying::{all_copies, copies};
 pub use drafts::{CopyDraft, CopyDrafts};

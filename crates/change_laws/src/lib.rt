@@ -4,11 +4,11 @@
 //! An operation that no place refuses is served, and no place refuses what an originator may do. A
 //! Create that is served adds one resource, an Update changes its target alone, and a Delete takes
 //! its target with all that stands below it. A Create and an Update remove besides at most
-//! instances that a container pushes out. The next number rises by just as many as are new. The
-//! changes that an operation makes, one after another, are those that it prepares. A group keeps
-//! each member that it is asked to have once, and none of another type than its own. All this is
-//! said of what an operation does before anybody is told (`effect_at`); what is told comes behind,
-//! with the same reply.
+//! instances that a container pushes out. In each operation the next number rises by exactly as
+//! many as are new. The changes that an operation makes, one after another, are those that it
+//! prepares. A group keeps each member that it is asked to have once, and none of another type than
+//! its own. All this is said of what an operation does before anybody is told (`effect_at`); what
+//! is told comes behind, with the same reply.
 //!
 //! ```text
 //! what_may_be_done_is_served(); // each call has its law as its contract

@@ -1,6 +1,6 @@
 -- What is prepared where a request is judged, and no place refuses it.
 use Rattle.std.specs.Prelude.{unwrap_or}
-use Rattle.std.proofs.Common.{◌≡◌, ℕ, List, [], Option, Some, None, sym, ap, ◌∙◌}
+use Rattle.std.proofs.Common.{◌≡◌, ℕ, List, [], false, Option, Some, None, sym, ap, ◌∙◌}
 use Rattle.std.proofs.lemmas.Option.{same_Some}
 use Rattle.std.specs.Option.{option_map_or}
 use Rattle.m2m_names.specs.declared.attributes.Attr.{Attr}
@@ -14,7 +14,7 @@ use Rattle.resource_model.specs.Resource.{has_number}
 use Rattle.tree_model.specs.Changes.{ChangeData, creation_changes, update_changes}
 use Rattle.tree_model.specs.Tree.{at, without}
 use Rattle.tree_model.proofs.TreeLemmas.{at_number}
-use Rattle.entity_model.specs.Entity.{EntityData, telling}
+use Rattle.entity_model.specs.Entity.{EntityData, copy_requests, telling}
 use Rattle.entity_model.specs.Places.{Effect, refused, reply_to}
 use Rattle.entity_model.specs.Sound.{IsSoundEntity}
 use Rattle.request_rules.specs.Creation.{creation_of}
@@ -56,12 +56,13 @@ module _ (e : EntityData) (o : List ℕ) (request : RequestParts) (n : ℕ) (cre
       ∙ ap (λ (x : Option Ty). option_map_or (λ (ty : Ty). create_effect request (creation_by e o request create.parent.now ty)) x (refused e request BadChild)) asked.ty
       ∙ ap (λ (x : Option (List Entry)). create_effect request (creation_of e o create.ty create.parent.now (unwrap_or x []))) create_names
 
-  pub create_prepared : (p : PreparedCreate) → MayJoin e p.resource p.update → p.reply ≡ (create_effect request (creation_for e o create)).reply → after_joining e p.resource p.update ≡ (create_effect request (creation_for e o create)).after → IsPreparedCreate e o request n p
-  create_prepared p may reply after =
+  pub create_prepared : (p : PreparedCreate) → MayJoin e p.resource p.update → (p.is_copied ≡ false → copy_requests e.home e.nodes (creation_changes e.nodes p.resource (gone_by p.update)) ≡ []) → p.reply ≡ (create_effect request (creation_for e o create)).reply → after_joining e p.resource p.update ≡ (create_effect request (creation_for e o create)).after → IsPreparedCreate e o request n p
+  create_prepared p may unsent reply after =
       let leaves : after_joining e p.resource p.update ≡ (effect_at Create e o request n).after = after ∙ ap (λ (x : Effect). x.after) (sym create_does) in
       let tells : List ℕ → List ChangeData → EntityData = λ going changes. telling e.nodes going changes (after_joining e p.resource p.update) in
       record {
         may = may;
+        unsent = unsent;
         reply = reply ∙ ap (λ (x : Effect). x.reply) (sym create_does) ∙ sym (told_reply Create e o request n create.parent.now asked.parent none);
         after =
             ap (λ (going : List ℕ). tells going (creation_changes e.nodes p.resource (gone_by p.update))) (sym (join_gone e p.resource p.update asked.sound may))

@@ -1,15 +1,17 @@
 -- What comes of an operation, its changes told (TS-0001, 9.6.8 and 10.2.10).
-use Rattle.std.specs.Prelude.{◌≡◌, ◌⊎◌, ℕ, false, List, filter, nat_eq, Option, Some, IsTrue}
+use Rattle.std.specs.Prelude.{◌≡◌, ◌⊎◌, ℕ, Bool, false, List, filter, nat_eq, Option, Some, IsTrue}
+use Rattle.std.specs.Prelude.{if◌then◌else◌}
 use Rattle.std.specs.List.{list_any}
 use Rattle.m2m_names.specs.declared.attributes.Attr.{Attr}
 use Rattle.m2m_names.specs.declared.operations.Op.{Op}
-use Rattle.m2m_names.specs.declared.types.Ty.TheVariants.{Subscription}
+use Rattle.m2m_names.specs.declared.types.Ty.TheVariants.{ContentInstance, Subscription}
 use Rattle.primitive_json.specs.declared.request.RequestParts.{RequestParts}
 use Rattle.resource_model.specs.Resource.{ResourceData, has_number, is_ty}
 use Rattle.subscription_match.specs.Notices.{notes_of_all}
 use Rattle.subscription_match.specs.declared.drafts.DraftParts.{DraftParts}
 use Rattle.tree_model.specs.Changes.{ChangeData, creation_changes, deletion_changes, update_changes}
 use Rattle.tree_model.specs.Tree.{at, is_at_or_below, line_of, numbers_of, without}
+use Rattle.announce_copy.specs.Below.{lists_peers}
 use Rattle.entity_model.specs.Entity.{EntityData, telling}
 use Rattle.entity_model.specs.Places.{Effect, on_found, unless_refused}
 use Rattle.request_rules.specs.Order.{places}
@@ -24,6 +26,12 @@ use Rattle.create_delete.specs.declared.joining.ContainerUpdate.{ContainerUpdate
 abbrev pub joined_told : EntityData → ResourceData → Option ContainerUpdate → EntityData
 joined_told e r f =
     telling e.nodes (gone_by f) (creation_changes e.nodes r (gone_by f)) (after_joining e r f)
+
+-- Copies may follow where a resource joins under another one, and instances are pushed out there:
+-- this lists a CSE in `at`; of an instance and of those the other one, which is their container.
+abbrev pub copies_may_follow : ResourceData → ResourceData → Bool
+copies_may_follow parent r =
+    if is_ty r.ty ContentInstance then lists_peers parent else lists_peers r
 
 -- the entity in which the second resource is the first one after an Update of these attributes, and
 -- those of these numbers are pushed out, told of both

@@ -1,20 +1,22 @@
 //! Creation (TS-0001, 10.2.1): what it prepares, and what it then does.
-ghost use Rattle.std.specs.Prelude.{◌≡◌, ℕ, List, IfOk, OnOk, OnErr, IsTrue};
+ghost use Rattle.std.specs.Prelude.{◌≡◌, ℕ, List, [], false, IfOk, OnOk, OnErr, IsTrue};
 ghost use Rattle.m2m_names.specs.Name.{is_originator};
 ghost use Rattle.m2m_names.specs.declared.operations.Op.TheVariants.{Create};
+ghost use Rattle.tree_model.specs.Changes.{creation_changes};
+ghost use Rattle.entity_model.specs.Entity.{copy_requests};
 ghost use Rattle.entity_model.specs.Places.{ComesTo};
 ghost use Rattle.entity_model.specs.Sound.{IsSoundEntity};
 ghost use Rattle.request_rules.specs.Creation.{size_named};
 ghost use Rattle.request_rules.specs.Judged.{IsCreateBy, Judges, creation_for};
 ghost use Rattle.request_rules.specs.Order.{fault_at};
 ghost use Rattle.create_delete.specs.Changing.{after_joining, create_effect, container_update_of};
-ghost use Rattle.create_delete.specs.Joining.{IsAllowed, MayJoin};
+ghost use Rattle.create_delete.specs.Joining.{IsAllowed, MayJoin, gone_by};
 ghost use Rattle.create_delete.specs.Prepared.{IsPreparedCreate};
 ghost use Rattle.create_delete.specs.Telling.{joined_told, told_effect_at};
 
 use crate::building::{new_resource, next_state};
 use crate::joining::{ContainerUpdate, put_new_resource};
-use crate::notifying::prepare_creation;
+use crate::notifying::{copies_may_follow, prepare_creation};
 use crate::pushing::pushed_out;
 use crate::telling::created_content;
 use entity_model::{Entity, refuse, reply_to, tell};
@@ -29,6 +31,8 @@ use tree_model::{Resource, Tree};
 pub(crate) struct PreparedCreate {
     pub(crate) resource: Resource,
     pub(crate) update: Option<ContainerUpdate>,
+    /// Whether a copy may follow it.
+    pub(crate) is_copied: bool,
     pub(crate) reply: Reply,
 }
 
@@ -86,16 +90,21 @@ fn prepare<T: Tree>(
     ensures may { IfOk result (λ p. MayJoin entity.now p.resource p.update) }
     ensures reply { IfOk result (λ p. p.reply
         ≡ (create_effect request.now (creation_for entity.now originator.now create.entry)).reply) }
+    ensures unsent { IfOk result (λ p. p.is_copied ≡ false → copy_requests entity.now.home
+        entity.now.nodes (creation_changes entity.now.nodes p.resource (gone_by p.update)) ≡ []) }
     ensures after { IfOk result (λ p. after_joining entity.now p.resource p.update
         ≡ (create_effect request.now (creation_for entity.now originator.now create.entry)).after) }
 {
     let update = container_update(alloc, entity, &create)?;
+    let parent = create.parent;
     let resource = new_resource(alloc, entity, originator, create)?;
+    let is_copied = copies_may_follow(parent, &resource);
     let told = created_content(alloc, entity, request, &resource)?;
     let reply = reply_to(alloc, request, Rsc::Created, told)?;
     Ok(PreparedCreate {
         resource,
         update,
+        is_copied,
         reply,
     })
 }
@@ -127,7 +136,9 @@ fn apply<T: Tree>(
     entity: &mut Entity<T>,
     prepared: PreparedCreate,
 ) -> Result<Reply, OutOfMemory>
-    requires { MayJoin entity.old prepared.resource prepared.update }
+    requires may { MayJoin entity.old prepared.resource prepared.update }
+    requires unsent { prepared.is_copied ≡ false → copy_requests entity.old.home entity.old.nodes
+        (creation_changes entity.old.nodes prepared.resource (gone_by prepared.update)) ≡ [] }
     ensures reply { IfOk result (λ r. r ≡ prepared.reply) }
     ensures after { OnOk result
         (entity.new ≡ joined_told entity.old prepared.resource prepared.update) }
@@ -140,6 +151,7 @@ fn apply<T: Tree>(
         &mut entity.outbox,
         &prepared.resource,
         &prepared.update,
+        prepared.is_copied,
     )?;
     put_new_resource(
         &mut entity.tree,

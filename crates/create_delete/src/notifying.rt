@@ -1,6 +1,7 @@
 //! What an operation tells subscriptions (TS-0001, 9.6.8), and sends to where copies of resources
 //! stand (9.6.26), before anything is changed.
-ghost use Rattle.std.specs.Prelude.{◌≡◌, ℕ, ◌≤◌, List, [], length, IfOk, IsTrue, Some};
+ghost use Rattle.std.specs.Prelude.{◌≡◌, ℕ, ◌≤◌, List, [], length, false, IfOk, IsTrue, Some};
+ghost use Rattle.m2m_names.specs.declared.attributes.Attr.{Attr};
 ghost use Rattle.resource_model.specs.Home.{HomeData};
 ghost use Rattle.resource_model.specs.Resource.{ResourceData};
 ghost use Rattle.subscription_match.specs.Notices.{notes_of_all};
@@ -13,13 +14,26 @@ ghost use Rattle.create_delete.specs.Telling as spec;
 
 use crate::gathering::numbers_below;
 use crate::joining::ContainerUpdate;
-use announce_copy::announces_below;
-use entity_model::{Told, nothing_told, prepare_telling};
+use announce_copy::{announces_below, lists_peers};
+use entity_model::{Told, nothing_told, prepare_telling, prepare_uncopied};
+use m2m_names::Ty;
 use notify_outbox::Outbox;
 use std::alloc::{AllocError as OutOfMemory, Global};
 use tree_model::{AttrSet, Changes, Home, Resource, Tree};
 
-/// What a creation tells, with room for it in the outbox.
+/// Whether a copy may follow where a resource joins under another one, and pushes instances out
+/// there: of these and of a new instance none does, unless their container lists a CSE in `at`.
+pub(crate) fn copies_may_follow(parent: &Resource, resource: &Resource) -> bool
+    ensures { result ≡ spec.copies_may_follow parent.now resource.now }
+{
+    if resource.is(Ty::ContentInstance) {
+        lists_peers(parent)
+    } else {
+        lists_peers(resource)
+    }
+}
+
+/// What a creation tells, with room for it in the outbox. Where it isn't copied, no copy follows it.
 pub(crate) fn prepare_creation<T: Tree>(
     alloc: Global,
     tree: &T,
@@ -27,8 +41,11 @@ pub(crate) fn prepare_creation<T: Tree>(
     outbox: &mut Outbox,
     resource: &Resource,
     update: &Option<ContainerUpdate>,
+    is_copied: bool,
 ) -> Result<Told, OutOfMemory>
-    requires { DoAscend (gone_by update.now) }
+    requires order { DoAscend (gone_by update.now) }
+    requires unsent { is_copied ≡ false → copy_requests home.now (T.nodes tree.now)
+        (creation_changes (T.nodes tree.now) resource.now (gone_by update.now)) ≡ [] }
     ensures told { IfOk result (IsTold home.now (T.nodes tree.now) (gone_by update.now)
         (creation_changes (T.nodes tree.now) resource.now (gone_by update.now))) }
     ensures room { IfOk result (λ t. length t.notes.items ≤ outbox.new.room) }
@@ -40,6 +57,9 @@ pub(crate) fn prepare_creation<T: Tree>(
         None => &[],
     };
     let changes = Changes::of_creation(tree, resource, gone);
+    if !is_copied {
+        return prepare_uncopied(alloc, tree, home, outbox, gone, changes);
+    }
     let again = Changes::of_creation(tree, resource, gone);
     prepare_telling(alloc, tree, home, outbox, gone, changes, again)
 }
@@ -66,11 +86,27 @@ pub(crate) fn prepare_update<T: Tree>(
     match tree.get(resource.number()) {
         Some(before) => {
             let changes = Changes::of_update(tree, before, resource, named, gone);
+            if is_unsent(before, resource, gone) {
+                return prepare_uncopied(alloc, tree, home, outbox, gone, changes);
+            }
             let again = Changes::of_update(tree, before, resource, named, gone);
             prepare_telling(alloc, tree, home, outbox, gone, changes, again)
         }
         None => Ok(nothing_told(alloc)),
     }
+}
+
+// Whether it is sure that no copy follows an Update of a resource: neither as it was nor as it is
+// now does that list a CSE in `at`, and no instances are pushed out.
+fn is_unsent(before: &Resource, after: &Resource, gone: &[u64]) -> bool
+    ensures { IsTrue result → (home : HomeData) (nodes : List ResourceData) (named : List Attr)
+        → copy_requests home nodes (update_changes nodes before.now after.now named gone.now)
+        ≡ [] }
+{
+    if !gone.is_empty() || lists_peers(before) || lists_peers(after) {
+        return false;
+    }
+    true
 }
 
 /// What the deletion of the resource of a number tells, with room for it in the outbox. Where no

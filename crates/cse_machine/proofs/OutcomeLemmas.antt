@@ -1,5 +1,5 @@
 -- What comes of a request to a resource, and that it is a step.
-use Rattle.std.proofs.Common.{◌≡◌, ◌⊎◌, ℕ, List, true, false, Option, Some, None, Result, Ok, Err, inl, inr, refl, sym, ap, ◌∙◌}
+use Rattle.std.proofs.Common.{◌≡◌, ◌⊎◌, ℕ, List, [], true, false, Option, Some, None, Result, Ok, Err, inl, inr, refl, sym, ap, subst, ◌∙◌}
 use Rattle.std.specs.Option.{option_map_or}
 use Rattle.m2m_names.specs.declared.codes.Rsc.{Rsc}
 use Rattle.m2m_names.specs.declared.codes.Rsc.TheVariants.{BadRequest, NotFound, NotReachable}
@@ -11,12 +11,14 @@ use Rattle.primitive_json.specs.declared.reply.ReplyParts.{ReplyParts}
 use Rattle.primitive_json.specs.declared.request.RequestParts.{RequestParts}
 use Rattle.tree_model.specs.Tree.{has}
 use Rattle.addressing.specs.Addresses.{address_of}
+use Rattle.addressing.specs.Laws.{spot_named}
 use Rattle.addressing.specs.Names.{segments_of, spot_of}
 use Rattle.addressing.specs.declared.addr.Addr.{Addr}
 use Rattle.addressing.specs.declared.addr.AddrFault.{AddrFault}
+use Rattle.addressing.specs.declared.spot.Spot.{Spot}
 use Rattle.addressing.specs.declared.spot.Spot.TheVariants.{Poll}
 use Rattle.entity_model.specs.Entity.{EntityData, swept}
-use Rattle.entity_model.specs.Places.{Effect, first_fault, refused, reply_alone, reply_to}
+use Rattle.entity_model.specs.Places.{Effect, first_fault, refusal, refused, reply_alone, reply_to}
 use Rattle.cse_machine.specs.declared.event.Event.{Event}
 use Rattle.cse_machine.specs.declared.event.Event.TheVariants.{Ask, Take, Tick}
 use Rattle.cse_machine.specs.declared.event.Outcome.{Outcome}
@@ -25,6 +27,7 @@ use Rattle.cse_machine.specs.Answer.{EventEffect, address_effect, answer_places,
 use Rattle.retarget.specs.Routes.{forwarded, routed}
 use Rattle.retarget.specs.declared.routing.Route.{Route}
 use Rattle.retarget.specs.declared.routing.Route.TheVariants as to
+use Rattle.group_fanout.specs.Fan.{IsCutShortAt, served_members}
 use Rattle.group_fanout.specs.Rights.{claimed_originator}
 use Rattle.cse_machine.specs.Step.{IsAnswered, IsUnswept, Occurs, Step}
 
@@ -121,6 +124,32 @@ came_of request before after Ticked is left =
     absurd (no_answer before request Ticked ticked_done ticked_onward is)
 came_of request before after (Starved done) is left =
     absurd (no_answer before request (Starved done) (starved_done done) (starved_onward done) is)
+
+-- a place that refuses it gives its refusal
+pub place_answers : (e : EntityData) (request : RequestParts) (fault : Rsc) (reply : ReplyParts) → first_fault (first_places e request) ≡ Some fault → reply ≡ refusal request fault → IsAnswered e request (Done reply) e
+place_answers e request fault reply place told =
+    let gives : as_done (refused e request fault) ≡ effect_of e request =
+    ap (λ (f : Option Rsc). option_map_or (λ (r : Rsc). as_done (refused e request r)) f (address_effect e request (address_of e.home request.to))) (sym place) in
+    (ap Done told ∙ ap (λ (x : EventEffect). x.outcome) gives, ap (λ (x : EventEffect). x.after) gives)
+
+-- what no place refuses gives what its address gives
+heard_gives : (e : EntityData) (request : RequestParts) (addr : Addr) → first_fault (first_places e request) ≡ None → address_of e.home request.to ≡ Ok addr → address_effect e request (Ok addr) ≡ effect_of e request
+heard_gives e request addr heard is =
+    ap (address_effect e request) (sym is)
+    ∙ ap (λ (f : Option Rsc). option_map_or (λ (r : Rsc). as_done (refused e request r)) f (address_effect e request (address_of e.home request.to))) (sym heard)
+
+pub heard_answers : (e after : EntityData) (request : RequestParts) (addr : Addr) (outcome : Outcome) → first_fault (first_places e request) ≡ None → address_of e.home request.to ≡ Ok addr → outcome ≡ (address_effect e request (Ok addr)).outcome → after ≡ (address_effect e request (Ok addr)).after → IsAnswered e request outcome after
+heard_answers e after request addr outcome heard is told left =
+    let gives = heard_gives e request addr heard is in
+    came_of request e after outcome (told ∙ ap (λ (x : EventEffect). x.outcome) gives) (left ∙ ap (λ (x : EventEffect). x.after) gives)
+
+-- and where memory runs out, as many of its members are done as its address says
+pub heard_cut : (e after : EntityData) (request : RequestParts) (spot : Option Spot) (done : ℕ) → first_fault (first_places e request) ≡ None → spot ≡ spot_named e.home request.to e.nodes → IsCutShortAt e (served_members e request spot) done after → IsAnswered e request (Starved done) after
+heard_cut e after request spot done heard named cut =
+    subst (λ (requests : List RequestParts). IsCutShortAt e requests done after)
+    (ap (served_members e request) named
+    ∙ ap (λ (f : Option Rsc). option_map_or (λ (r : Rsc). []) f (served_members e request (spot_named e.home request.to e.nodes))) (sym heard))
+    cut
 
 -- and what answers it on what is left is a step
 answered_step : (reading : ℕ) (request : RequestParts) (before after : EntityData) (outcome : Outcome) → IsAnswered (swept reading before) request outcome after → Step reading (Ask request) before outcome after

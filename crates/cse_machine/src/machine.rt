@@ -1,5 +1,5 @@
 //! One event after another.
-ghost use Rattle.std.specs.Prelude.{◌≡◌, IfOk, IfSome, IsTrue, Ok, OnErr, Some, option_map};
+ghost use Rattle.std.specs.Prelude.{◌≡◌, IfOk, IfSome, IsTrue, None, Ok, OnErr, Some, option_map};
 ghost use Rattle.std.specs.Prelude.{option_and_then, IfErr};
 ghost use Rattle.m2m_names.specs.Name.{is_originator};
 ghost use Rattle.tree_model.specs.Tree.{has};
@@ -17,12 +17,12 @@ ghost use Rattle.group_fanout.specs.Fan.{IsCutShortAt, fan_effect_at, fanned_at,
 ghost use Rattle.group_fanout.specs.Fan.{served_members};
 ghost use Rattle.group_fanout.specs.Rights.{claimed_originator};
 ghost use Rattle.group_fanout.specs.Rights as rights;
-ghost use Rattle.cse_machine.specs.Answer.{ComesToOutcome, effect_of, first_places};
+ghost use Rattle.cse_machine.specs.Answer.{ComesToOutcome, first_places};
 ghost use Rattle.cse_machine.specs.Answer.{goes_on, onward_effect, point_of, poll_effect};
 ghost use Rattle.cse_machine.specs.Answer.{poll_refusal, spot_effect};
 ghost use Rattle.cse_machine.specs.Answer as spec;
 ghost use Rattle.cse_machine.specs.Heard.{IsHeardAs};
-ghost use Rattle.cse_machine.specs.Step.{IsAnswered, Occurs, Step, heard_members};
+ghost use Rattle.cse_machine.specs.Step.{IsAnswered, Occurs, Step};
 ghost use Rattle.cse_machine.specs.Step as steps;
 ghost use Rattle.cse_machine.specs.declared.event.Outcome.TheVariants.{Done};
 ghost use Rattle.entity_model.specs.Entity.{swept};
@@ -101,19 +101,25 @@ fn occur<T: Tree>(alloc: Global, entity: &mut Entity<T>, event: &Event) -> Outco
     ensures { Occurs event.now entity.old result entity.new }
 {
     match event {
-        Event::Ask(request) => ask(alloc, entity, request),
+        Event::Ask(request) => match judge(alloc, entity, request) {
+            Ok(heard) => lead(alloc, entity, request, heard.originator, &heard.addr),
+            Err(Refusal::Fault(fault)) => turn_away(alloc, entity, request, fault),
+            Err(Refusal::OutOfMemory) => Outcome::Starved { done: 0 },
+        },
         Event::Take => Outcome::Item(take_next(entity)),
         Event::Tick => Outcome::Ticked,
     }
 }
 
-// What a request gives on the entity as it stands.
-fn ask<T: Tree>(alloc: Global, entity: &mut Entity<T>, request: &Request) -> Outcome
-    ensures { IsAnswered entity.old request.now result entity.new }
+// The outcome of a request that a place refuses before its address is resolved.
+#[tactic(auto, using(group_fanout::proofs::FanLemmas::none_cut))]
+fn turn_away<T: Tree>(alloc: Global, entity: &Entity<T>, request: &Request, fault: Rsc) -> Outcome
+    requires refused { first_fault (first_places entity.now request.now) ≡ Some fault }
+    ensures { IsAnswered entity.now request.now result entity.now }
 {
-    match answer(alloc, entity, request) {
-        Ok(outcome) => outcome,
-        Err(starved) => Outcome::Starved { done: starved.done },
+    match refuse(alloc, request, fault) {
+        Ok(reply) => Outcome::Done(reply),
+        Err(_) => Outcome::Starved { done: 0 },
     }
 }
 
@@ -123,24 +129,6 @@ fn turn_down(alloc: Global, request: &Request, fault: Rsc) -> Result<Outcome, St
     ensures none { IfErr result (λ s. s.done ≡ 0) }
 {
     Ok(Outcome::Done(refuse(alloc, request, fault)?))
-}
-
-// What it gives where there is memory for it.
-#[tactic(auto, using(group_fanout::proofs::FanLemmas::none_cut))]
-fn answer<T: Tree>(
-    alloc: Global,
-    entity: &mut Entity<T>,
-    request: &Request,
-) -> Result<Outcome, Starved>
-    ensures gives { ComesToOutcome result entity.new (effect_of entity.old request.now) }
-    ensures cut { IfErr result (λ s. IsCutShortAt entity.old
-        (heard_members entity.old request.now) s.done entity.new) }
-{
-    match judge(alloc, entity, request) {
-        Ok(heard) => lead(alloc, entity, request, heard.originator, &heard.addr),
-        Err(Refusal::Fault(fault)) => turn_down(alloc, request, fault),
-        Err(Refusal::OutOfMemory) => Err(Starved { done: 0 }),
-    }
 }
 
 // ---- whether it is heard
@@ -225,23 +213,46 @@ fn lead<T: Tree>(
     request: &Request,
     originator: &[u8],
     addr: &Addr,
-) -> Result<Outcome, Starved>
+) -> Outcome
+    requires heard { first_fault (first_places entity.old request.now) ≡ None }
     requires originator { IsTrue (is_originator originator.now) }
     requires claimed { claimed_originator entity.old.home request.now ≡ originator.now }
     requires addressed { address_of entity.old.home request.now.to ≡ Ok addr.now }
-    ensures gives { ComesToOutcome result entity.new
-        (address_effect entity.old request.now (Ok addr.now)) }
-    ensures cut { IfErr result (λ s. IsCutShortAt entity.old (served_members entity.old request.now
-        (spot_named entity.old.home request.now.to entity.old.nodes)) s.done entity.new) }
+    ensures { IsAnswered entity.old request.now result entity.new }
 {
     match addr {
         Addr::Local(segments) => {
             let spot = name_segments(&entity.tree, segments);
-            Ok(Outcome::Done(reach(alloc, entity, request, originator, segments, spot)?))
+            match reach(alloc, entity, request, originator, segments, spot) {
+                Ok(reply) => Outcome::Done(reply),
+                Err(starved) => Outcome::Starved { done: starved.done },
+            }
         }
         Addr::Foreign(_) | Addr::OtherProvider => {
-            lead_away(alloc, entity, request, originator, addr)
+            lead_elsewhere(alloc, entity, request, originator, addr)
         }
+    }
+}
+
+// The outcome where its address leads elsewhere. Nothing is changed.
+#[tactic(auto, using(group_fanout::proofs::FanLemmas::none_cut))]
+fn lead_elsewhere<T: Tree>(
+    alloc: Global,
+    entity: &Entity<T>,
+    request: &Request,
+    originator: &[u8],
+    addr: &Addr,
+) -> Outcome
+    requires heard { first_fault (first_places entity.now request.now) ≡ None }
+    requires originator { IsTrue (is_originator originator.now) }
+    requires claimed { claimed_originator entity.now.home request.now ≡ originator.now }
+    requires addressed { address_of entity.now.home request.now.to ≡ Ok addr.now }
+    requires away { IsLocal addr.now → ⊥ }
+    ensures { IsAnswered entity.now request.now result entity.now }
+{
+    match lead_away(alloc, entity, request, originator, addr) {
+        Ok(outcome) => outcome,
+        Err(_) => Outcome::Starved { done: 0 },
     }
 }
 

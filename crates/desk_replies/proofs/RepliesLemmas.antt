@@ -94,6 +94,14 @@ onward_starved spelled url sent reply before now same carried is =
       came = inl (carried.came, is);
     })
 
+-- an outcome that isn't one gives no reply
+pub no_reply : (outcome : Outcome) → ((reply : ReplyParts) → outcome ≡ Done reply → ⊥) → reply_of outcome ≡ None
+no_reply (Done reply) other = absurd (other reply refl)
+no_reply (Forward poa sent) other = refl
+no_reply (Item given) other = refl
+no_reply Ticked other = refl
+no_reply (Starved done) other = refl
+
 module _ {E : Type 0} where
   -- an outcome that is a reply
   pub over_done : (request : RequestParts) (outcome : Outcome) (reply : ReplyParts) (told : LinkTold) → reply_of outcome ≡ Some reply

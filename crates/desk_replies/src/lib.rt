@@ -22,4 +22,4 @@ mod replying;
 
 pub use binding::Binding;
 pub use replier::{Plainly, Replier};
-pub use replying::{bare_reply, reply_onward};
+pub use replying::{bare_reply, reply_onward, reply_over};

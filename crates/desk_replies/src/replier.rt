@@ -4,7 +4,7 @@ ghost use Rattle.http_forwarding.specs.Carries.{link_told};
 ghost use Rattle.desk_replies.specs.Answering.{Answers};
 ghost use Rattle.desk_replies.specs.Rule.{ReplyRule};
 
-use crate::replying::reply_by;
+use crate::replying::reply_over;
 use cse_machine::{Event, Outcome};
 use m2m_io::{Clock, Link};
 use primitive_json::{Reply, Request};
@@ -69,6 +69,6 @@ impl Replier for Plainly {
     {
         let reading = clock.now();
         let outcome = desk.ask(seat, reading, Event::Ask(request));
-        reply_by(alloc, link, id, outcome)
+        reply_over(alloc, link, id, outcome)
     }
 }

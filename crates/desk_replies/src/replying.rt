@@ -3,7 +3,6 @@ ghost use Rattle.std.specs.Prelude.{◌≡◌, IfOk, IfSome, IsUtf8};
 ghost use Rattle.http_forwarding.specs.Carries.{link_told};
 ghost use Rattle.primitive_json.specs.declared.request.RequestParts.{RequestParts};
 ghost use Rattle.cse_machine.specs.Answer.{starved};
-ghost use Rattle.desk_replies.specs.Replies as spec;
 ghost use Rattle.desk_replies.specs.Replies.{RepliesOnward, RepliesOver};
 
 use cse_machine::Outcome;
@@ -33,16 +32,6 @@ fn starved_reply(alloc: Global, id: &[u8]) -> Result<Reply, OutOfMemory>
     Ok(bare_reply(Rsc::Internal, Some(rqi)))
 }
 
-/// The reply that an outcome is, if it is one.
-fn reply_of(outcome: Outcome) -> Option<Reply>
-    ensures { result ≡ spec.reply_of outcome }
-{
-    match outcome {
-        Outcome::Done(reply) => Some(reply),
-        _ => None,
-    }
-}
-
 /// The reply to a request for which memory ran out as it was carried. Takes no memory.
 fn uncarried_reply(request: Request) -> Reply
     ensures { result ≡ starved request }
@@ -65,7 +54,7 @@ pub fn reply_onward<L: Link>(alloc: Global, link: &mut L, poa: &Url, request: Re
 
 /// The reply to the request with this identifier by the outcome of its event. The link is for a
 /// request that goes on to another CSE.
-pub(crate) fn reply_by<L: Link>(
+pub fn reply_over<L: Link>(
     alloc: Global,
     link: &mut L,
     id: &[u8],
@@ -77,10 +66,8 @@ pub(crate) fn reply_by<L: Link>(
         (link_told (L.exchanges link.new) (L.faults link.new)) result }
 {
     match outcome {
+        Outcome::Done(reply) => Ok(reply),
         Outcome::Forward { poa, request } => Ok(reply_onward(alloc, link, &poa, request)),
-        other => match reply_of(other) {
-            Some(reply) => Ok(reply),
-            None => starved_reply(alloc, id),
-        },
+        _ => starved_reply(alloc, id),
     }
 }

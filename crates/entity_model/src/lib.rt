@@ -13,7 +13,8 @@
 //! first change; `tell`, behind the last, needs none: it appends the notes, and behind them the
 //! requests to where copies of the resources stand; and it lowers the subscriptions that count, or
 //! removes those to which none is left (`telling` of `specs/Entity`). Every operation and the
-//! expiry tell by these two.
+//! expiry tell by these two; who knows that no copy follows the changes prepares by
+//! `prepare_uncopied`, which goes through them once.
 //!
 //! Laws over every entity stand on functions without a body: an entity opens sound, and stays sound
 //! where something but the CSEBase is removed, and where something is told; its first resource is
@@ -50,5 +51,5 @@ pub use replying::{refuse, reply_to, wanted_content};
 pub use std::alloc::AllocError as OutOfMemory;
 pub use sweeping::sweep;
 pub use taking::take_next;
-pub use telling::{nothing_told, prepare_telling, tell};
+pub use telling::{nothing_told, prepare_telling, prepare_uncopied, tell};
 pub use told::Told;

@@ -58,8 +58,49 @@ pub fn prepare_telling<T: Tree>(
     ensures items { outbox.new.items ≡ outbox.old.items }
     ensures count { outbox.new.count ≡ outbox.old.count }
 {
-    let mut drafts = all_notes(alloc, tree, home, going, changes)?;
     let requests = copy_requests(alloc, tree, home, again)?;
+    prepare_with(alloc, tree, home, outbox, going, changes, requests)
+}
+
+/// The same for changes that no copy follows, as is known already.
+pub fn prepare_uncopied<T: Tree>(
+    alloc: Global,
+    tree: &T,
+    home: &Home,
+    outbox: &mut Outbox,
+    going: &[u64],
+    changes: Changes<'_, T>,
+) -> Result<Told, OutOfMemory>
+    requires ascend { DoAscend going.now }
+    requires unsent { copy_requests home.now (T.nodes tree.now) changes ≡ [] }
+    ensures told { IfOk result
+        (IsTold home.now (T.nodes tree.now) going.now changes.entry) }
+    ensures room { IfOk result (λ t. length t.notes.items ≤ outbox.new.room) }
+    ensures items { outbox.new.items ≡ outbox.old.items }
+    ensures count { outbox.new.count ≡ outbox.old.count }
+{
+    prepare_with(alloc, tree, home, outbox, going, changes, Vec::new(alloc))
+}
+
+// The same, where these are the requests about copies that the changes ask for.
+fn prepare_with<T: Tree>(
+    alloc: Global,
+    tree: &T,
+    home: &Home,
+    outbox: &mut Outbox,
+    going: &[u64],
+    changes: Changes<'_, T>,
+    requests: Vec<Note>,
+) -> Result<Told, OutOfMemory>
+    requires ascend { DoAscend going.now }
+    requires requests { requests.items ≡ copy_requests home.now (T.nodes tree.now) changes }
+    ensures told { IfOk result
+        (IsTold home.now (T.nodes tree.now) going.now changes.entry) }
+    ensures room { IfOk result (λ t. length t.notes.items ≤ outbox.new.room) }
+    ensures items { outbox.new.items ≡ outbox.old.items }
+    ensures count { outbox.new.count ≡ outbox.old.count }
+{
+    let mut drafts = all_notes(alloc, tree, home, going, changes)?;
     if is_nothing(&drafts, &requests) {
         return Ok(nothing_told(alloc));
     }
@@ -125,6 +166,9 @@ pub(crate) fn append_all(outbox: &mut Outbox, moment: u64, notes: Vec<Note>)
         ≡ outbox.old.items ++ items_from outbox.old.count moment notes.items }
     ensures count { outbox.new.count ≡ numbered_after outbox.old.count notes.items }
 {
+    if notes.is_empty() {
+        return;
+    }
     for note in notes {
         outbox.append(note, moment);
     }

@@ -1,9 +1,9 @@
 //! Whether resources and items are those of a sound entity, as a test.
 //!
-//! Each entity is sound at every moment, so no program that only serves has to ask. Who makes an
-//! entity of what stands in a file does: a tree into which each resource was put that fits behind
-//! those before it (`fits`), and items that were taken one after another (`follows`), are tested
-//! whole by `are_sound`. The tests hold of every sound entity, and of nothing else (specs/Laws).
+//! Each entity is sound at every moment, so no program that only serves has to ask. An opening asks
+//! it of what stands in a file. It puts each resource that `fits` into a tree, takes each item that
+//! `follows` the one before, and tests the whole by `are_sound`. The tests hold of every sound
+//! entity, and of nothing else (specs/Laws).
 //!
 //! ```text
 //! if !fits(&tree, &resource) { return Ok(None); } // no tree has it there

@@ -9,8 +9,8 @@
 //! (specs/Lines). In a journal the mark `@2:` stands in front of them, which says the number of the
 //! format: a journal may begin with a snapshot, which has a number of its own, and says nothing of
 //! the deeds behind it. No byte below 32 stands inside a line, and what is written of a deed is
-//! read back as it. A request of which that isn't so, as its content is too deep or its expiry too
-//! long, is told apart before anything of it is written.
+//! read back as it. A request that wouldn't be read back, since its content is too deep or its
+//! expiry too long, is refused before anything of it is written.
 //!
 //! `first_deed` reads the lines at the front of a text and tells how many bytes they have. It gives
 //! none where they are no such lines; callers then name the line. `begins_unmarked` tells where

@@ -19,7 +19,8 @@ pub fn what_was_answered_is_opened_again<F: KeptFile>()
 {}
 
 /// Over the turns of an entity that is kept, no item of the outbox is lost that hasn't waited the
-/// keeping time: it stays there until it is said that it was sent, or the machine gives it away.
+/// keeping time: while the journal hasn't failed, it stays there until it is said that it was sent,
+/// or the machine gives it away.
 pub fn no_item_is_lost<F: KeptFile>()
     ensures { NoItemIsLost F.tells F.seen F.may_leave F.moment F.left_since }
 {}

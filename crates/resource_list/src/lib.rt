@@ -1,6 +1,6 @@
 //! The resources of a tree as one list in order of creation, whose numbers ascend.
 //!
-//! A resource is found in it by halving, or where it is likely to stand. A removal is one pass in
+//! A resource is found by binary search, after a look at its likely place. A removal is one pass in
 //! place, which searches for no parent, since the list notes where that stands (`places`). Callers
 //! owe the conditions of `push` and `replace`. Only `push` and `overdue` take memory.
 //!

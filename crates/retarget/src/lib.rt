@@ -1,9 +1,9 @@
-//! Where requests go that lead to another CSE (TS-0001, 7.2 and 10.2.2), and what goes on.
+//! Requests for other CSEs (TS-0001, 7.2 and 10.2.2).
 //!
-//! `route_of` tells where a request goes by its address: it stays here, or it goes on to a
-//! registered CSE, or there is none, or it comes from one already, or that one has no point of
-//! access. `first_url` is that point of access, and `forwarded` the request as it goes on. A `Url`
-//! is a text that is one.
+//! `route_of` tells by the address whether a request stays here, goes on to a registered CSE, or
+//! can't go on: no CSE is registered by that CSE-ID, the request comes from a CSE already, or the
+//! CSE has no point of access. `first_url` is that point of access, and `forwarded` the request as
+//! it goes on. A `Url` is a text that is one.
 //!
 //! ```text
 //! let route = route_of(tree, b"CAdmin", &addr); // Route::Forward(number)

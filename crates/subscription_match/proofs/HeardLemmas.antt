@@ -56,13 +56,8 @@ heard_among going own above (r ∷ nodes) =
     among (does_hear_under going above) (does_hear going) r (filter (is_sub_of_either own above) nodes) (filter (is_sub_of above) nodes)
     (is_sub_of own r) (is_sub_of above r) refl (heard_among going own above nodes)
 
--- one of those that were taken hears where one did so far or the next does
-pub hears_on : (so_far next left all : Bool) → (so_far || (next || left)) ≡ all → ((so_far || next) || left) ≡ all
-hears_on true next left all is = is
-hears_on false next left all is = is
-
 -- where none is left, one of those that were taken hears where one under the second of two resources does
-pub heard_of_all : (going : List ℕ) (own above : Option ℕ) (nodes left : List ResourceData) (hears : Bool) → left ≡ [] → (hears || list_any (does_hear_under going above) left) ≡ list_any (does_hear_under going above) (filter (is_sub_of_either own above) nodes) → hears ≡ is_heard_above going nodes above
+heard_of_all : (going : List ℕ) (own above : Option ℕ) (nodes left : List ResourceData) (hears : Bool) → left ≡ [] → (hears || list_any (does_hear_under going above) left) ≡ list_any (does_hear_under going above) (filter (is_sub_of_either own above) nodes) → hears ≡ is_heard_above going nodes above
 heard_of_all going own above nodes left hears none is =
     sym (or_false hears) ∙ ap (λ (rs : List ResourceData). hears || list_any (does_hear_under going above) rs) (sym none)
     ∙ is ∙ heard_among going own above nodes
@@ -71,10 +66,11 @@ heard_of_all going own above nodes left hears none is =
     or_false true = refl
     or_false false = refl
 
--- what was found of those that were taken is so
-pub found_same : (found : Option Bool) (hears is : Bool) → IfSome found (λ b. b ≡ hears) → hears ≡ is → IfSome found (λ b. b ≡ is)
-found_same None hears is says same = tt
-found_same (Some b) hears is says same = says ∙ same
+-- what was found of those that were taken is so, where it was sought
+pub heard_where_sought : (going : List ℕ) (own above : Option ℕ) (nodes left : List ResourceData) (is_sought hears : Bool) (found : Option Bool) → left ≡ [] → (hears || (is_sought && list_any (does_hear_under going above) left)) ≡ (is_sought && list_any (does_hear_under going above) (filter (is_sub_of_either own above) nodes)) → IfSome found (λ b. (is_sought ≡ true) × (b ≡ hears)) → IfSome found (λ b. b ≡ is_heard_above going nodes above)
+heard_where_sought going own above nodes left is_sought hears None none is says = tt
+heard_where_sought going own above nodes left true hears (Some b) none is says = says.1 ∙ heard_of_all going own above nodes left hears none is
+heard_where_sought going own above nodes left false hears (Some b) none is says = absurd (false≢true says.0)
 
 -- one more
 pub one_noted : (going : List ℕ) (nodes : List ResourceData) (old new : List (ℕ × Bool)) (parent : ℕ) (is : Bool) → AreHeard going nodes old → is ≡ is_heard going nodes parent → ((q : ℕ) → noted_at new q ≡ cond (is_eq (nat_cmp parent q)) (Some is) (noted_at old q)) → AreHeard going nodes new

@@ -1,6 +1,6 @@
 //! What is told of changes.
 ghost use Rattle.std.specs.Prelude.{◌≡◌, ℕ, ◌++◌, ◌+◌, ◌<◌, ◌≤◌, List, filter, length, IfOk};
-ghost use Rattle.std.specs.Prelude.{IfSome, OnOk};
+ghost use Rattle.std.specs.Prelude.{IfSome, OnOk, true};
 ghost use Rattle.std.specs.List.{filter_map};
 ghost use Rattle.resource_model.specs.Resource.{ResourceData};
 ghost use Rattle.subscription_match.specs.Matching as matching;
@@ -88,16 +88,24 @@ fn does_hear_under(going: &[u64], parent: Option<u64>, sub: &Resource) -> bool
     is_sub_of(sub, parent) && does_hear(going, sub)
 }
 
+// Whether a change is a deletion, which alone is told as that of a child.
+fn is_deletion(change: Change<'_>) -> bool {
+    match change {
+        Change::Created(_) | Change::Updated { .. } => false,
+        Change::Deleted(_) => true,
+    }
+}
+
 // What was found, where something was sought.
 fn found_of(is_sought: bool, found: bool) -> Option<bool>
-    ensures { IfSome result (λ b. b ≡ found) }
+    ensures { IfSome result (λ b. (is_sought ≡ true) × (b ≡ found)) }
 {
     if is_sought { Some(found) } else { None }
 }
 
 // What is told to those of the subscriptions under the changed resource, and under another one
-// where it is given, that match the change; and, where some stand under that other one, whether one
-// of these is told of the deletion of a child.
+// where it is given, that match the change; and of a deletion, where some stand under that other
+// one, whether one of these is told of the deletion of a child.
 fn add_told<T: Tree, L: Ledger>(
     alloc: Global,
     tree: &T,
@@ -120,10 +128,10 @@ fn add_told<T: Tree, L: Ledger>(
         (matching.own_of (change_of change.entry)) above) (T.nodes tree.now)) + 2 }
 {
     let mut subs = over_watching(tree, own_of(change), above, steps);
-    let is_sought = subs.has_above();
+    let is_sought = is_deletion(change) && subs.has_above();
     let mut hears = false;
     'subs: while let Some(sub) = subs.take(steps) {
-        hears = hears || does_hear_under(going, above, sub);
+        hears = hears || (is_sought && does_hear_under(going, above, sub));
         if let Some(kind) = event_for(going, change, sub) {
             drafts.push(told_as(alloc, tree, home, change, sub, kind)?)?;
         }

@@ -1,6 +1,6 @@
 //! Trees of resources: what a tree is, whatever keeps it, and how a resource in it is shown. What a
-//! resource is stands in `resource_model`, whose types are handed on here; a body that keeps a tree
-//! stands above, in `plain_tree`.
+//! resource is stands in `resource_model`, whose types are handed on here; the crates plain_tree
+//! and resource_tree keep trees.
 //!
 //! To callers a tree is the list of its resources in order of creation (`Tree::nodes`); every
 //! operation is a look-up, an append, one replacement, or a removal by ancestry on that list, and

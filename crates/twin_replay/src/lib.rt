@@ -1,5 +1,4 @@
-//! Two CSEs that are prepared and asked by the same lines, and whether an originator can tell them
-//! apart.
+//! Two CSEs that are prepared by lines of JSON, compared for one originator, and asked the same.
 //!
 //! Callers hand in a home, a source of lines and a sink. `twin` opens two entities with that home,
 //! prepares each by its lines, and brings both to one moment. It writes whether the originator has

@@ -1,13 +1,12 @@
-use Rattle.std.proofs.Common.{◌≡◌, ◌++◌}
-use Rattle.announce_copy.specs.Copies.{AreAddressed, copies_of_all}
-use Rattle.announce_copy.specs.Peers.{AreNoted}
+use Rattle.std.proofs.Common.{◌≡◌, length}
+use Rattle.announce_copy.specs.Copies.{copies_of_all}
 use Rattle.announce_copy.proofs.copying.all_copies.Given as goal
 
--- those so far and those of the changes that are left are those of all
+-- nothing is sent for the changes so far
 abbrev pub invariant-loop-change : goal.invariant-loop-change
 invariant-loop-change g l =
     let nodes = g.T.Tree.nodes l.tree in
-    (l.drafts.items ++ copies_of_all l.home nodes l.change-iterator
-    ≡ copies_of_all l.home nodes l.fn.changes)
-    × AreNoted nodes l.known.entries
-    × AreAddressed l.drafts.items
+    copies_of_all l.home nodes l.left ≡ copies_of_all l.home nodes l.fn.changes
+
+abbrev pub decreases-loop-change : goal.decreases-loop-change
+decreases-loop-change g l = length l.left

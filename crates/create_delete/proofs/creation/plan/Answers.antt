@@ -27,5 +27,5 @@ pub returns : goal.returns
 returns g c = (
   c.in_ok-create.ensures.0,
   create_prepared c.args.entity.now c.args.originator.now c.args.request.now c.args.parent c.in_ok-create.create c.in_ok-create.ensures.0 c.in_ok-create.ensures.1
-      c.in_ok-prepare.field-0 c.in_ok-prepare.ensures.may c.in_ok-prepare.ensures.reply c.in_ok-prepare.ensures.after,
+      c.in_ok-prepare.field-0 c.in_ok-prepare.ensures.may c.in_ok-prepare.ensures.unsent c.in_ok-prepare.ensures.reply c.in_ok-prepare.ensures.after,
 )

@@ -8,6 +8,7 @@ use Rattle.create_delete.specs.Changing.{after_joining, container_update_of}
 use Rattle.create_delete.specs.Joining.{MayJoin}
 use Rattle.create_delete.specs.declared.joining.ContainerUpdate.{ContainerUpdate}
 use Rattle.create_delete.proofs.CreatedLemmas.{may_join}
+use Rattle.create_delete.proofs.UnsentLemmas.{unsent_made}
 use Rattle.create_delete.proofs.creation.prepare.Goals as goal
 
 -- its parent is there
@@ -23,6 +24,14 @@ returns-clause-may g c =
     let joins : MayJoin made.e (new_resource made) (container_update_of made) = may_join made c.requires.sound c.requires.originator c.requires.allowed in
     subst (λ (r : ResourceData). MayJoin made.e r c.in_ok-update.update) (sym c.in_ok-resource.ensures)
     (subst (λ (f : Option ContainerUpdate). MayJoin made.e (new_resource made) f) (sym (c.in_ok-update.ensures c.args.originator.now)) joins)
+
+-- and no copy follows, unless its container lists a CSE, or it does
+pub returns-clause-unsent : goal.returns-clause-unsent
+returns-clause-unsent g c none =
+    let made : Creation = creation_for c.args.entity.now c.args.originator.now c.args.create in
+    let joins : MayJoin made.e (new_resource made) (container_update_of made) = may_join made c.requires.sound c.requires.originator c.requires.allowed in
+    unsent_made c.args.entity.now c.args.create.parent.now (new_resource made) c.in_ok-resource.resource (container_update_of made) c.in_ok-update.update c.copies_may_follow-is_copied.result c.in_ok-resource.ensures (c.in_ok-update.ensures c.args.originator.now)
+    c.requires.sound c.requires.allowed.parent joins c.copies_may_follow-is_copied.ensures none
 
 pub returns-clause-after : goal.returns-clause-after
 returns-clause-after g c =
