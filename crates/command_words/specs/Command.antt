@@ -68,6 +68,10 @@ workers_option = codes "--workers"
 abbrev pub log_option : List ℕ
 log_option = codes "--log"
 
+-- the protocol of the connections
+abbrev pub bind_option : List ℕ
+bind_option = codes "--bind"
+
 -- the file in which a CSE is kept
 abbrev pub journal_option : List ℕ
 journal_option = codes "--journal"
@@ -85,6 +89,10 @@ faults_word = codes "faults"
 abbrev pub nothing_word : List ℕ
 nothing_word = codes "nothing"
 
+-- WebSocket, as a protocol of connections; the other is called as the command `http`
+abbrev pub ws_word : List ℕ
+ws_word = codes "ws"
+
 -- ---- the options that a command takes
 
 -- The options that say what the home of the entity is.
@@ -93,7 +101,8 @@ home_options = id_option ∷ base_option ∷ sp_option ∷ admin_option ∷ type
 
 -- The options that only a server takes.
 abbrev pub serving_options : List (List ℕ)
-serving_options = listen_option ∷ accept_option ∷ workers_option ∷ log_option ∷ []
+serving_options =
+    listen_option ∷ accept_option ∷ workers_option ∷ log_option ∷ bind_option ∷ []
 
 -- What `http`, `replay`, `twin` and `serve` take, and what `snapshot` takes behind the name of a file.
 abbrev pub http_options : List (List ℕ)
@@ -165,13 +174,19 @@ pub data Logged : Type 0 where
   faults : Logged
   nothing : Logged
 
+-- the protocol of the connections: HTTP or WebSocket
+pub data Bind : Type 0 where
+  over_http : Bind
+  over_ws : Bind
+
 -- Where a server listens, how many connections it accepts, where that is limited, how many it
--- serves at a time, and what it logs.
+-- serves at a time, what it logs, and the protocol that it speaks on each.
 pub record Serving : Type 0 where
   pub listen : List ℕ
   pub accept : Option ℕ
   pub workers : ℕ
   pub log : Logged
+  pub bind : Bind
 
 -- where a server listens that is told nothing
 abbrev pub usual_address : List ℕ
@@ -200,14 +215,28 @@ abbrev pub log_said : Option (List ℕ) → Option Logged
 log_said None = Some faults
 log_said (Some text) = logged_in text
 
+-- the protocol that a text says
+abbrev pub bind_in : List ℕ → Option Bind
+bind_in text = if bytes_eq text http_word then Some over_http
+    else if bytes_eq text ws_word then Some over_ws
+    else None
+
+-- the protocol that an option says, or else HTTP
+abbrev pub bind_said : Option (List ℕ) → Option Bind
+bind_said None = Some over_http
+bind_said (Some text) = bind_in text
+
 -- the server that options say
 abbrev pub serving_said : List Choice → Option Serving
-serving_said os = option_and_then (λ accept. option_and_then (λ workers. option_map (λ log. record {
-  listen = unwrap_or (option_value listen_option os) usual_address;
-  accept = accept;
-  workers = workers;
-  log = log;
-}) (log_said (option_value log_option os)))
+serving_said os = option_and_then (λ accept. option_and_then (λ workers.
+    option_and_then (λ log. option_map (λ bind. record {
+      listen = unwrap_or (option_value listen_option os) usual_address;
+      accept = accept;
+      workers = workers;
+      log = log;
+      bind = bind;
+    }) (bind_said (option_value bind_option os)))
+    (log_said (option_value log_option os)))
     (workers_said (option_value workers_option os)))
     (accept_said (option_value accept_option os))
 

@@ -4,8 +4,11 @@ use Rattle.std.specs.declared.result.Result.{Result}
 use Rattle.std.specs.declared.result.Result.TheVariants.{Ok, Err}
 use Rattle.resource_model.specs.Home.{HomeData}
 use Rattle.command_words.specs.Command.{Command, Logged, Serving, Task, http, replay, serve}
+use Rattle.command_words.specs.Command.{Bind, over_http, over_ws}
 use Rattle.command_words.specs.Command.{twin, generate, requests, figures, faults, nothing}
 use Rattle.command_words.specs.Line.{Asked, runs, runs_over, shortens, helps, tells_version}
+use Rattle.command_words.specs.declared.command.Bind as declared_bind
+use Rattle.command_words.specs.declared.command.Bind.TheVariants as declared_binds
 use Rattle.command_words.specs.declared.command.Command as declared_command
 use Rattle.command_words.specs.declared.command.Serving as declared_serving
 use Rattle.command_words.specs.declared.command.Logged as declared_logged
@@ -35,6 +38,11 @@ logged_by declared_kinds.Figures = figures
 logged_by declared_kinds.Faults = faults
 logged_by declared_kinds.Nothing = nothing
 
+-- the protocol, as it was read
+abbrev pub bind_by : declared_bind.Bind → Bind
+bind_by declared_binds.Http = over_http
+bind_by declared_binds.Ws = over_ws
+
 -- the server that was read
 abbrev pub serving_by : declared_serving.Serving → Serving
 serving_by s = record {
@@ -42,6 +50,7 @@ serving_by s = record {
   accept = s.accept;
   workers = s.workers;
   log = logged_by s.log;
+  bind = bind_by s.bind;
 }
 
 -- the task that was read

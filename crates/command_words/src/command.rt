@@ -6,7 +6,7 @@ ghost use Rattle.command_words.specs.Options.{Choice};
 ghost use Rattle.command_words.specs.Options as choices;
 ghost use Rattle.command_words.specs.Program.{rows_by};
 ghost use Rattle.command_words.specs.Command as spec;
-ghost use Rattle.command_words.specs.Reading.{Reads, home_by, logged_by, serving_by};
+ghost use Rattle.command_words.specs.Reading.{Reads, bind_by, home_by, logged_by, serving_by};
 
 use crate::faults::{LineFault, Wanted, WordFault};
 use crate::home::HomeWords;
@@ -28,14 +28,23 @@ pub enum Logged {
     Nothing,
 }
 
+/// The protocol that a server speaks on its connections.
+#[derive(Clone, Copy, Debug, PartialEq, Eq)]
+pub enum Bind {
+    Http,
+    /// WebSocket.
+    Ws,
+}
+
 /// Where a server listens, how many connections it accepts, where that is limited, how many it
-/// serves at a time, and what it logs.
+/// serves at a time, what it logs, and the protocol that it speaks on each.
 #[derive(Clone, Copy, Debug)]
 pub struct Serving<'a> {
     pub listen: &'a str,
     pub accept: Option<u64>,
     pub workers: u64,
     pub log: Logged,
+    pub bind: Bind,
 }
 
 /// What is to be done.
@@ -195,6 +204,33 @@ fn log_said(said: Option<&str>) -> Result<Logged, WordFault<'_>>
     }
 }
 
+/// The protocol that a text says.
+fn bind_in(text: &str) -> Result<Bind, WordFault<'_>>
+    ensures { option_map bind_by (result_ok result) ≡ spec.bind_in text.now }
+{
+    if text == names::HTTP {
+        Ok(Bind::Http)
+    } else if text == names::WS {
+        Ok(Bind::Ws)
+    } else {
+        Err(WordFault::Value {
+            option: names::BIND,
+            value: text,
+            wanted: Wanted::Bind,
+        })
+    }
+}
+
+fn bind_said(said: Option<&str>) -> Result<Bind, WordFault<'_>>
+    ensures { option_map bind_by (result_ok result)
+        ≡ spec.bind_said (option_map (λ text. text.now) said.entry) }
+{
+    match said {
+        Some(text) => bind_in(text),
+        None => Ok(Bind::Http),
+    }
+}
+
 /// The server that options say.
 pub(crate) fn serving_said<'a>(options: &ArgMatches<'a>) -> Result<Serving<'a>, WordFault<'a>>
     ensures { (os : List Choice) → rows_of (found_of options.now) ≡ rows_by os
@@ -203,11 +239,13 @@ pub(crate) fn serving_said<'a>(options: &ArgMatches<'a>) -> Result<Serving<'a>, 
     let accept = accept_said(option_value(names::ACCEPT, options))?;
     let workers = workers_said(option_value(names::WORKERS, options))?;
     let log = log_said(option_value(names::LOG, options))?;
+    let bind = bind_said(option_value(names::BIND, options))?;
     Ok(Serving {
         listen: option_value(names::LISTEN, options).unwrap_or(USUAL_ADDRESS),
         accept,
         workers,
         log,
+        bind,
     })
 }
 

@@ -9,6 +9,8 @@ pub enum Wanted {
     Count(u64),
     /// What a server can log.
     Logged,
+    /// A protocol that a server can speak.
+    Bind,
     /// The name of a file.
     File,
     /// A name of 1 to 64 characters.
@@ -24,6 +26,7 @@ impl fmt::Display for Wanted {
         match self {
             Wanted::Count(most) => write!(f, "a number from 1 to {most}"),
             Wanted::Logged => f.write_str("requests, figures, faults or nothing"),
+            Wanted::Bind => f.write_str("http or ws"),
             Wanted::File => f.write_str("the name of a file"),
             Wanted::Name => f.write_str("a name of 1 to 64 letters, digits, -, ., _ and ~"),
             Wanted::BaseName => f.write_str(

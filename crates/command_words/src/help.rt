@@ -1,7 +1,7 @@
 //! What the program says of itself.
 
 /// The version of the program.
-pub const VERSION: &str = "0.9";
+pub const VERSION: &str = "0.10";
 
 /// What the commands and their options are.
 pub const HELP: &str = "\
@@ -11,7 +11,7 @@ usage: cse COMMAND [OPTION VALUE]..
 
 commands
   http           serves standard input and output as one HTTP connection
-  serve          serves HTTP connections at an address
+  serve          serves connections at an address, over HTTP or WebSocket
   replay         answers the lines of standard input, a request in JSON each
   twin           compares two CSEs that are prepared by standard input
   gen NUMBER     makes 1 to 100000 requests of its own and counts the answers
@@ -37,6 +37,8 @@ options of serve
                     if not said
   --log WHAT        what is logged on standard error: requests, figures,
                     faults or nothing; faults if not said
+  --bind PROTOCOL   the protocol of every connection: http, or ws for
+                    WebSocket; http if not said
 
 option of http and serve
   --journal FILE    keep each change in this file, which is made where there is

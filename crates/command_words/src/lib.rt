@@ -26,7 +26,7 @@ mod names;
 mod options;
 mod program;
 
-pub use command::{Command, Logged, Serving, Task};
+pub use command::{Bind, Command, Logged, Serving, Task};
 pub use faults::{LineFault, Wanted, WordFault};
 pub use help::{HELP, VERSION};
 pub use line::{Asked, read_command, read_line};

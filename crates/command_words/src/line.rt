@@ -107,6 +107,7 @@ fn serve_said<'a>(alloc: Global, words: &'a [&'a str]) -> Result<Asked<'a>, Line
         names::ACCEPT,
         names::WORKERS,
         names::LOG,
+        names::BIND,
         names::JOURNAL,
     ];
     let options = options_of(alloc, &taken, words)?;

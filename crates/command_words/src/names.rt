@@ -54,6 +54,11 @@ pub(crate) const FAULTS: &str = "faults";
 
 pub(crate) const NOTHING: &str = "nothing";
 
+/// Which protocol a server speaks on its connections. `http` names one of them too.
+pub(crate) const BIND: &str = "--bind";
+
+pub(crate) const WS: &str = "ws";
+
 // ---- that of a CSE that is kept
 
 /// The file of the journal.

@@ -8,7 +8,7 @@ use Rattle.turn_desk.specs.declared.shared.DeskSeat.{DeskSeat}
 use Rattle.turn_desk.specs.Seats.{known_to}
 use Rattle.turn_desk.specs.Shared.{Leaves, OwnsAll, newcomer}
 use Rattle.resource_model.specs.Home.{HomeData}
-use Rattle.command_words.specs.Command.{Serving}
+use Rattle.command_words.specs.Command.{Bind, Serving, over_http, over_ws}
 use Rattle.entity_model.specs.Entity.{EntityData}
 use Rattle.entity_model.specs.Opening.{opening}
 use Rattle.cse_machine.specs.Step.{Step}
@@ -80,14 +80,24 @@ pub record ServesObject {X E R C B A : Type 0} (step : ℕ → E → X → R →
   pub left : X
   pub leaves : Leaves step object (known_to back).seen left
 
--- Connections were attended to by an entity that opened as this one, by as many workers as the
--- words say, where there are benches for so many, beside an errand.
-abbrev pub ServesEntity : {C B A : Type 0} → (DeskSeat EntityData Event Outcome → C → B
+-- what is done over HTTP, or else what is done over WebSocket, as the words say
+abbrev pub ByBind : Bind → Type 0 → Type 0 → Type 0
+ByBind over_http http ws = http
+ByBind over_ws http ws = ws
+
+-- Connections were attended to by an entity that opened as this one, each as HTTP or each as a
+-- WebSocket, as the words say, by as many workers as they say, where there are benches for so many,
+-- beside an errand.
+abbrev pub ServesEntity : {C B A W : Type 0}
+    → (DeskSeat EntityData Event Outcome → C → B
     → DeskSeat EntityData Event Outcome → A → B → Type 0)
+    → (DeskSeat EntityData Event Outcome → C → B
+    → DeskSeat EntityData Event Outcome → W → B → Type 0)
     → (DeskSeat EntityData Event Outcome → B → DeskSeat EntityData Event Outcome → B → Type 0)
     → List B → Serving → EntityData → B → B → Type 0
-ServesEntity attends does benches serving opened old new =
-    ServesObject Step attends does (take (max 1 serving.workers + 1) benches) opened old new
+ServesEntity http ws does benches serving opened old new = ByBind serving.bind
+    (ServesObject Step http does (take (max 1 serving.workers + 1) benches) opened old new)
+    (ServesObject Step ws does (take (max 1 serving.workers + 1) benches) opened old new)
 
 -- A server with this first bench, whose clock gives one reading: at it the entity with this home
 -- opens, by which the connections of the door are then `served`, which changes the bench at its

@@ -7,8 +7,11 @@ ghost use Rattle.command_words.specs.Reading.{task_by};
 ghost use Rattle.cse_cli.specs.Devices.{devices_by};
 ghost use Rattle.cse_cli.specs.Running.{RunsCommand, RunsTask};
 ghost use Rattle.cse_cli.specs.Serve.{ServesEntity};
-ghost use Rattle.cse_server.specs.Attending.{Attends, SeatGrows, SendsFrom, conn_tells, link_tells};
+ghost use Rattle.cse_server.specs.Attending.{Attends, AttendsBy, SeatGrows, SendsFrom, conn_tells};
+ghost use Rattle.cse_server.specs.Attending.{link_tells};
+ghost use Rattle.desk_replies.specs.Rule.{plainly};
 ghost use Rattle.workers.specs.Gate.{door_tells};
+ghost use Rattle.ws_binding.specs.Binding.{TalksWs};
 
 use crate::http::serve_streams;
 use crate::replay::replay_lines;
@@ -50,11 +53,13 @@ where
     L: Drop,
     ensures { let devices = devices_by S.left S.faults O.written O.puts O.faults C.readings
         (link_tells L.exchanges L.faults) (door_tells D.opened D.given D.ended D.faults) in
-        let attends = Attends SeatGrows
+        let http = Attends SeatGrows
         (conn_tells D.Conn.left D.Conn.written D.Conn.puts D.Conn.Source.faults
         D.Conn.Sink.faults) C.readings (link_tells L.exchanges L.faults) in
+        let ws = AttendsBy SeatGrows (TalksWs plainly) C.readings
+        (link_tells L.exchanges L.faults) in
         let sends = SendsFrom SeatGrows C.readings (link_tells L.exchanges L.faults) in
-        RunsTask (ServesEntity attends sends server.benches.items)
+        RunsTask (ServesEntity http ws sends server.benches.items)
         (task_by command.entry.task) command.entry.home
         (devices input.old out.old first.old server.door)
         (devices input.new out.new first.new result.1) result.0 }
@@ -87,7 +92,8 @@ pub fn told<E: Sink, X>(err: &mut E, ended: (Status, X)) -> (Status, X)
 /// as one connection, `replay` answers the lines of `input`, `twin` compares two entities that
 /// these prepare, `serve` opens the door and serves its connections, each by a worker, and `gen`
 /// makes so many requests and writes a line on what they are answered. The options say the home of
-/// the entities, and at `serve` where the door is opened and how many connections are accepted.
+/// the entities, and at `serve` where the door is opened, how many connections are accepted, and
+/// whether each is one of HTTP or a WebSocket.
 pub fn run<
     R,
     S: Source,
@@ -118,11 +124,13 @@ where
     // that are none.
     ensures runs { let devices = devices_by S.left S.faults O.written O.puts O.faults C.readings
         (link_tells L.exchanges L.faults) (door_tells D.opened D.given D.ended D.faults) in
-        let attends = Attends SeatGrows
+        let http = Attends SeatGrows
         (conn_tells D.Conn.left D.Conn.written D.Conn.puts D.Conn.Source.faults
         D.Conn.Sink.faults) C.readings (link_tells L.exchanges L.faults) in
+        let ws = AttendsBy SeatGrows (TalksWs plainly) C.readings
+        (link_tells L.exchanges L.faults) in
         let sends = SendsFrom SeatGrows C.readings (link_tells L.exchanges L.faults) in
-        RunsCommand (ServesEntity attends sends benches.items)
+        RunsCommand (ServesEntity http ws sends benches.items)
         (command_in (map (λ word. word.now) words.now))
         (devices input.old out.old first.old door)
         (devices input.new out.new first.new result.1) result.0 }

@@ -5,9 +5,9 @@
 //! the connections of the door, and `gen`, which makes requests of its own and writes one line on
 //! what they are answered. Callers see of each what `RunsCommand` says (specs/Running). A program
 //! that has read its words itself hands `run_command` the command, of which `RunsTask` says the
-//! same, with the `Server` for one that serves. Commands over a journal share `told`, which says how
-//! a command ended, `benches_for`, which are the benches of a server, and `seed`, which clients
-//! don't know, for tables of theirs.
+//! same, with the `Server` for one that serves. Commands over a journal share `told`, which says
+//! how a command ended, `benches_for`, which are the benches of a server, and `seed`, by which the
+//! tables of a tree hash and which clients don't know.
 //!
 //! ```text
 //! let words = ["serve", "--listen", "127.0.0.1:8080"];

@@ -1,15 +1,20 @@
 //! The command `serve`.
 ghost use Rattle.std.specs.Prelude.{◌≡◌, ◌≢◌, ◌≤◌, ◌+◌, max, take, vec_len};
 ghost use Rattle.command_words.specs.Reading.{serving_by};
-ghost use Rattle.cse_server.specs.Attending.{Attends, SeatGrows, SendsFrom, conn_tells, link_tells};
+ghost use Rattle.cse_server.specs.Attending.{Attends, AttendsBy, SeatGrows, SendsFrom, conn_tells};
+ghost use Rattle.cse_server.specs.Attending.{link_tells};
+ghost use Rattle.desk_replies.specs.Rule.{plainly};
+ghost use Rattle.ws_binding.specs.Binding.{TalksWs};
 ghost use Rattle.workers.specs.Gate.{door_tells};
 ghost use Rattle.cse_cli.specs.Serve.{OpensServer, ServesEntity, ServesObject, ServesOpen};
 
 use crate::http::opened;
-use command_words::Serving;
+use command_words::{Bind, Serving};
 use cse_machine::{Event, Outcome};
-use cse_server::{Bench, ServeFault, serve};
+use cse_server::{Attended, Bench, HttpBinding, ServeFault, Served, serve_by};
+use desk_replies::{Binding, Plainly};
 use m2m_io::{Clock, Door, Link, Status};
+use resource_tree::IndexTree;
 use service_observer::{ItemObserver, ReplyObserver};
 use std::alloc::Global;
 use std::sync::Wait;
@@ -18,11 +23,12 @@ use std::time::Duration;
 use std::{io, time};
 use tree_model::Home;
 use turn_desk::{Object, TurnDesk};
+use ws_binding::{Talked, WsBinding};
 
-/// Serves the connections of an open door, of which so many are accepted at most, at a desk of this
-/// object, and sends what waits in its outbox.
+/// Serves the connections of an open door by a binding, of which so many are accepted at most, at a
+/// desk of this object, and sends what waits in its outbox.
 #[tactic(auto, using(crate::proofs::ServeLemmas::comes_back))]
-fn serve_at_desk<R, O, D, C, L>(
+fn serve_at_desk<R, O, D, C, L, A, P>(
     rt: &R,
     own_rt: R,
     alloc: Global,
@@ -31,18 +37,19 @@ fn serve_at_desk<R, O, D, C, L>(
     accept: Option<u64>,
     first: &mut Bench<C, L>,
     benches: Vec<Bench<C, L>>,
+    binding: &P,
 ) -> (Status, D)
 where
     R: Wait + Threads + Drop + Sync,
     O: Object<Event = Event, Outcome = Outcome> + Send + Drop,
     D: Door + Send,
-    D::Conn: ReplyObserver,
     C: Clock + Send + Drop,
     L: Link + ItemObserver + Send + Drop,
+    A: Drop + Send,
+    P: Binding<D::Conn, A> + Sync,
     requires benches { 2 ≤ vec_len benches }
-    ensures serves { let attends = Attends SeatGrows
-        (conn_tells D.Conn.left D.Conn.written D.Conn.puts D.Conn.Source.faults
-        D.Conn.Sink.faults) C.readings (link_tells L.exchanges L.faults) in
+    ensures serves { let attends = AttendsBy SeatGrows (P.talks binding.now) C.readings
+        (link_tells L.exchanges L.faults) in
         let sends = SendsFrom SeatGrows C.readings (link_tells L.exchanges L.faults) in
         ServesOpen (ServesObject O.step attends sends benches.items object first.old first.new)
         (first.new ≡ first.old) accept
@@ -53,7 +60,9 @@ where
     let Ok((desk, seat)) = TurnDesk::new(own_rt, alloc, object) else {
         return (Status::Memory, door);
     };
-    match serve(rt, alloc, &desk, seat, door, accept, first, benches) {
+    match serve_by::<R, O, D, C, L, A, P>(
+        rt, alloc, &desk, seat, door, accept, first, benches, binding,
+    ) {
         Ok((seat, door)) => {
             drop(desk.close(seat));
             (Status::Done, door)
@@ -100,9 +109,59 @@ pub fn seed<R: time::Clock>(rt: &R) -> u64 {
     nanos_of(rt.monotonic()) ^ nanos_of(rt.since_1970())
 }
 
+/// Serves the connections of an open door by an entity, each by the protocol that the words say, of
+/// which as many are accepted at most as they say, by as many workers as they say, beside a sender
+/// of what waits in its outbox.
+fn serve_bound<R, D, C, L>(
+    rt: &R,
+    own_rt: R,
+    alloc: Global,
+    served: Served<IndexTree>,
+    serving: Serving<'_>,
+    door: D,
+    first: &mut Bench<C, L>,
+    benches: Vec<Bench<C, L>>,
+) -> (Status, D)
+where
+    R: Wait + Threads + Drop + Sync,
+    D: Door + Send,
+    D::Conn: ReplyObserver,
+    C: Clock + Send + Drop,
+    L: Link + ItemObserver + Send + Drop,
+    requires benches { 2 ≤ vec_len benches }
+    ensures serves { let http = Attends SeatGrows
+        (conn_tells D.Conn.left D.Conn.written D.Conn.puts D.Conn.Source.faults
+        D.Conn.Sink.faults) C.readings (link_tells L.exchanges L.faults) in
+        let ws = AttendsBy SeatGrows (TalksWs plainly) C.readings
+        (link_tells L.exchanges L.faults) in
+        let sends = SendsFrom SeatGrows C.readings (link_tells L.exchanges L.faults) in
+        ServesOpen (ServesEntity http ws sends benches.items (serving_by serving.entry) served
+        first.old first.new) (first.new ≡ first.old) serving.entry.accept
+        (door_tells D.opened D.given D.ended D.faults door)
+        (door_tells D.opened D.given D.ended D.faults result.1) result.0 }
+    ensures command { result.0 ≢ Status.Usage }
+{
+    let accept = serving.accept;
+    let benches = benches_for(serving, benches);
+    match serving.bind {
+        Bind::Http => {
+            let binding = HttpBinding { replier: Plainly };
+            serve_at_desk::<R, Served<IndexTree>, D, C, L, Attended<D::Conn>, HttpBinding<Plainly>>(
+                rt, own_rt, alloc, served, door, accept, first, benches, &binding,
+            )
+        }
+        Bind::Ws => {
+            let binding = WsBinding { replier: Plainly };
+            serve_at_desk::<R, Served<IndexTree>, D, C, L, Talked<D::Conn>, WsBinding<Plainly>>(
+                rt, own_rt, alloc, served, door, accept, first, benches, &binding,
+            )
+        }
+    }
+}
+
 /// Opens an entity with this home at the clock's first reading, opens the door where the words say,
-/// and serves its connections, of which as many are accepted at most as they say, by as many
-/// workers as they say, beside a sender of what waits in its outbox.
+/// and serves its connections, each by the protocol that they say, of which as many are accepted at
+/// most as they say, by as many workers as they say, beside a sender of what waits in its outbox.
 pub(crate) fn serve_door<R, D, C, L>(
     rt: &R,
     alloc: Global,
@@ -119,11 +178,13 @@ where
     C: Clock + Send + Drop,
     L: Link + ItemObserver + Send + Drop,
     requires benches { 2 ≤ vec_len benches }
-    ensures opens { let attends = Attends SeatGrows
+    ensures opens { let http = Attends SeatGrows
         (conn_tells D.Conn.left D.Conn.written D.Conn.puts D.Conn.Source.faults
         D.Conn.Sink.faults) C.readings (link_tells L.exchanges L.faults) in
+        let ws = AttendsBy SeatGrows (TalksWs plainly) C.readings
+        (link_tells L.exchanges L.faults) in
         let sends = SendsFrom SeatGrows C.readings (link_tells L.exchanges L.faults) in
-        OpensServer (ServesEntity attends sends benches.items (serving_by serving.entry))
+        OpensServer (ServesEntity http ws sends benches.items (serving_by serving.entry))
         (serving_by serving.entry) home C.readings first.old first.new
         (door_tells D.opened D.given D.ended D.faults door)
         (door_tells D.opened D.given D.ended D.faults result.1) result.0 }
@@ -139,14 +200,5 @@ where
     if let Err(_) = door.open(serving.listen.as_bytes()) {
         return (Status::ReadFault, door);
     }
-    serve_at_desk(
-        rt,
-        own_rt,
-        alloc,
-        served,
-        door,
-        serving.accept,
-        first,
-        benches_for(serving, benches),
-    )
+    serve_bound(rt, own_rt, alloc, served, serving, door, first, benches)
 }

@@ -83,8 +83,8 @@ EndsSending (Err starved) count last =
     (outcome : Outcome) × (last ≡ outcome ∷ []) × (outcome ≢ none_left)
 
 -- A seat asked for the next item again and again, at readings that a clock gave, and for nothing
--- else; and each item that it was given was sent over a link. Clock and link told these before and
--- tell those now.
+-- else; and each item that it was given was sent over a link, but perhaps not the last, where
+-- memory ran out. Clock and link told these before and tell those now.
 pub record SendsItems {S E : Type 0} (grown : S → List (Marked Event Outcome) → S → Type 0)
     (before after : S) (given now : Option (List ℕ)) (told more : LinkTold)
     (result : Result ℕ E) : Type 0 where

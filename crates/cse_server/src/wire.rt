@@ -5,6 +5,7 @@ ghost use Rattle.m2m_io.specs.Sides.{side_of};
 use http_frames::Frame;
 use http_target::BindFault;
 use m2m_io::{Connection, Failed, Sink, Source};
+use m2m_names::Rsc;
 use primitive_json::Reply;
 use service_observer::ReplyObserver;
 
@@ -65,4 +66,6 @@ impl<S: Source, O: Sink> ReplyObserver for Wire<'_, S, O> {
     fn replied(&self, _: &Frame, _: Option<&BindFault>, _: &Reply) {}
 
     fn refused(&self, _: &Reply) {}
+
+    fn answered(&self, _: &[u8], _: Rsc) {}
 }

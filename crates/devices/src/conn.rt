@@ -6,14 +6,16 @@ use crate::clock::{millis_now, millis_of, since_start, time_left};
 use crate::doorway::{ON_ITS_WAY, Visitor, await_client};
 use crate::log::Log;
 use crate::printing::{MOST_LOGGED, front, printable};
-use crate::reasons::why_refused;
-use crate::replies::{originator_of, start_of, why_of};
+use crate::reasons::{why_refused, why_refused_in};
+use crate::replies::{operation_of, originator_of, start_of, why_of};
 use http_frames::Frame;
 use http_target::BindFault;
 use m2m_io::{Connection, Failed, Sink, Source};
-use primitive_json::Reply;
+use m2m_names::Rsc;
+use m2m_value::read;
+use primitive_json::{Reply, Request, request_from};
 use service_observer::ReplyObserver;
-use std::alloc::AllocError;
+use std::alloc::{AllocError, Global};
 use std::io::{Eprint, ErrorKind, Read, Write};
 use std::net::{Shutdown, SocketAddr, TcpStream};
 use std::time::{Clock, Duration};
@@ -39,7 +41,7 @@ const MOST_DRAINED: usize = 65_536;
 /// What a line says of a reply that was written.
 #[derive(Clone, Copy, Debug)]
 struct WrittenReply {
-    /// The status of HTTP.
+    /// The status of HTTP; 0 where it has none.
     status: u16,
     /// How many bytes it has.
     length: usize,
@@ -76,11 +78,39 @@ fn micros_of(time: Duration) -> u64 {
         .saturating_add(time.subsec_micros() as u64)
 }
 
-/// The status of HTTP in a reply.
-fn status_in(reply: &[u8]) -> u16 {
-    match reply.get(9..12).and_then(|text| str::from_utf8(text).ok()) {
+/// How a message of HTTP begins, but for the digits of its status.
+const HTTP_FRONT: &[u8] = b"HTTP/1.1 ";
+
+/// The status of HTTP in what was written; 0 where it has none.
+fn status_in(written: &[u8]) -> u16 {
+    if !written.starts_with(HTTP_FRONT) {
+        return 0;
+    }
+    match written
+        .get(9..12)
+        .and_then(|text| str::from_utf8(text).ok())
+    {
         Some(text) => text.parse::<u16>().unwrap_or(0),
         None => 0,
+    }
+}
+
+/// A line, and why behind it.
+fn with_reason(alloc: Global, line: String, why: Option<String>) -> Result<String, AllocError> {
+    match why {
+        Some(why) => {
+            let (line, why) = (line.as_str(), why.as_str());
+            format!(in alloc; "{line} {why}")
+        }
+        None => Ok(line),
+    }
+}
+
+/// The request that a payload is.
+fn request_in(alloc: Global, payload: &[u8]) -> Option<Request> {
+    match read(alloc, payload) {
+        Ok(value) => request_from(alloc, value).ok(),
+        Err(_) => None,
     }
 }
 
@@ -273,7 +303,7 @@ impl<R: Clock + Eprint + Copy> TcpConn<R> {
             if self.begun.is_some() {
                 figures.end_request();
             }
-            figures.reply(bytes.get(9).copied().unwrap_or(b'4'));
+            figures.reply(status_in(bytes) as u64 / 100);
         }
         self.begun = None;
     }
@@ -298,17 +328,21 @@ impl<R: Clock + Eprint + Copy> TcpConn<R> {
     /// What a line says of a message with this start, from this originator: the client, the
     /// originator, the start, and how it was answered: the status of HTTP and the code of oneM2M,
     /// the bytes of the reply, and the time that it took.
-    fn line_of(&self, originator: &str, start: &str, reply: &Reply) -> Result<String, AllocError> {
+    fn line_of(&self, originator: &str, start: &str, rsc: Rsc) -> Result<String, AllocError> {
+        let alloc = self.log.allocator();
         let peer = &self.peer;
         let WrittenReply {
             status,
             length,
             micros,
         } = self.reply;
-        let code = reply.parts().rsc.number();
-        format!(in self.log.allocator();
-            "{peer} {originator} {start} {status} {code} {length}B {micros}us"
-        )
+        let code = rsc.number();
+        let status = match status {
+            0 => String::from_str(alloc, "-")?,
+            status => format!(in alloc; "{status}")?,
+        };
+        let status = status.as_str();
+        format!(in alloc; "{peer} {originator} {start} {status} {code} {length}B {micros}us")
     }
 
     /// A line for the reply to a message, which says why the message is no request, or why the
@@ -322,25 +356,47 @@ impl<R: Clock + Eprint + Copy> TcpConn<R> {
         let alloc = self.log.allocator();
         let originator = originator_of(alloc, frame)?;
         let start = start_of(alloc, frame)?;
-        let line = self.line_of(originator.as_str(), start.as_str(), reply)?;
+        let rsc = reply.parts().rsc;
+        let line = self.line_of(originator.as_str(), start.as_str(), rsc)?;
         let why = match fault {
             Some(fault) => Some(why_of(alloc, fault)?),
-            None => why_refused(alloc, frame, reply)?,
+            None => why_refused(alloc, frame, rsc)?,
         };
-        match why {
-            Some(why) => {
-                let (line, why) = (line.as_str(), why.as_str());
-                format!(in alloc; "{line} {why}")
-            }
-            None => Ok(line),
-        }
+        with_reason(alloc, line, why)
+    }
+
+    /// A line for the reply to a payload of a talk, by the request that it is. It says why that was
+    /// refused, or what the payload was where it is none.
+    fn line_for_payload(
+        &self,
+        payload: &[u8],
+        request: Option<Request>,
+        rsc: Rsc,
+    ) -> Result<String, AllocError> {
+        let alloc = self.log.allocator();
+        let Some(request) = request else {
+            let heard = printable(alloc, payload)?;
+            let line = self.line_of("-", "- -", rsc)?;
+            let (line, heard) = (line.as_str(), heard.as_str());
+            return format!(in alloc; "{line} no request: {heard}");
+        };
+        let request = request.into_parts();
+        let originator = match &request.fr {
+            Some(fr) => printable(alloc, fr.entries())?,
+            None => printable(alloc, b"")?,
+        };
+        let target = printable(alloc, request.to.entries())?;
+        let (operation, target) = (operation_of(request.op), target.as_str());
+        let start = format!(in alloc; "{operation} {target}")?;
+        let line = self.line_of(originator.as_str(), start.as_str(), rsc)?;
+        with_reason(alloc, line, why_refused_in(alloc, request, rsc)?)
     }
 
     /// A line for the reply to what is no message. It says what was read since the last reply.
     fn line_for_none(&self, reply: &Reply) -> Result<String, AllocError> {
         let alloc = self.log.allocator();
         let heard = printable(alloc, &self.heard)?;
-        let line = self.line_of("-", "- -", reply)?;
+        let line = self.line_of("-", "- -", reply.parts().rsc)?;
         let (line, heard) = (line.as_str(), heard.as_str());
         format!(in alloc; "{line} no message: {heard}")
     }
@@ -494,6 +550,18 @@ impl<R: Clock + Eprint + Copy> ReplyObserver for TcpConn<R> {
             && let Ok(line) = self.line_for_none(reply)
         {
             self.log.tell(line.as_str());
+        }
+    }
+
+    fn answered(&self, payload: &[u8], rsc: Rsc) {
+        if let Some(figures) = self.log.figures() {
+            figures.reply(rsc.number() as u64 / 1_000);
+        }
+        if self.log.has_requests() {
+            let request = request_in(self.log.allocator(), payload);
+            if let Ok(line) = self.line_for_payload(payload, request, rsc) {
+                self.log.tell(line.as_str());
+            }
         }
     }
 }

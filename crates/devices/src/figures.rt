@@ -81,11 +81,13 @@ impl Figures {
         discount(&self.busy);
     }
 
-    /// A reply was written whose status begins with this digit.
-    pub(crate) fn reply(&self, class: u8) {
+    /// A reply was written whose status begins with this digit. What has no status, and what isn't
+    /// the last word on a request, counts as none.
+    pub(crate) fn reply(&self, class: u64) {
         match class {
-            b'2' => count(&self.done),
-            b'5' => count(&self.broken),
+            0 | 1 => {}
+            2 => count(&self.done),
+            5 => count(&self.broken),
             _ => count(&self.refused),
         }
     }

@@ -10,7 +10,7 @@ use http_binding::to_request;
 use http_frames::Frame;
 use m2m_names::{Attr, Op, Rsc, Ty};
 use m2m_value::{MemberKey, Val};
-use primitive_json::{Reply, RequestParts};
+use primitive_json::RequestParts;
 use std::alloc::{AllocError, Global};
 
 /// An address that is no longer than this is read.
@@ -83,7 +83,7 @@ fn right_for(request: &RequestParts) -> &'static str {
         Op::Create if request.ty == Some(Ty::Subscription.number()) => "CREATE with RETRIEVE",
         Op::Create => "CREATE",
         Op::Retrieve => match &request.fc {
-            Some(filter) if filter.parts().fu == Some(FilterUsage::Discovery) => "DISCOVER",
+            Some(filter) if filter.parts().fu == Some(FilterUsage::Discovery) => "DISCOVERY",
             _ => "RETRIEVE",
         },
         Op::Update if changes_acpi(request) => "right to change acpi",
@@ -117,21 +117,33 @@ fn why_of_content(alloc: Global, fault: &AttrFault) -> Result<String, AllocError
     }
 }
 
-/// Why the request in a message has this reply, where that is certain.
+/// Whether the reason of such a reply can be told.
+fn is_told(code: Rsc) -> bool {
+    code == Rsc::NoPrivilege || code == Rsc::BadRequest
+}
+
+/// Why the request in a message is answered so, where that is certain.
 pub(crate) fn why_refused(
     alloc: Global,
     frame: &Frame,
-    reply: &Reply,
+    code: Rsc,
 ) -> Result<Option<String>, AllocError> {
-    let code = reply.parts().rsc;
-    if code != Rsc::NoPrivilege && code != Rsc::BadRequest {
+    if !is_told(code) {
         return Ok(None);
     }
-    let Ok(request) = to_request(alloc, frame) else {
-        return Ok(None);
-    };
-    let request = request.into_parts();
-    if !names_here(request.to.entries()) {
+    match to_request(alloc, frame) {
+        Ok(request) => why_refused_in(alloc, request.into_parts(), code),
+        Err(_) => Ok(None),
+    }
+}
+
+/// Why a request is answered so, where that is certain.
+pub(crate) fn why_refused_in(
+    alloc: Global,
+    request: RequestParts,
+    code: Rsc,
+) -> Result<Option<String>, AllocError> {
+    if !is_told(code) || !names_here(request.to.entries()) {
         return Ok(None);
     }
     if code == Rsc::NoPrivilege {

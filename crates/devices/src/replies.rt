@@ -2,6 +2,7 @@
 use crate::printing::printable;
 use http_frames::{Found, Frame, Start};
 use http_target::BindFault;
+use m2m_names::Op;
 use m2m_value::ValFault;
 use std::alloc::{AllocError, Global};
 
@@ -23,6 +24,17 @@ pub(crate) fn start_of(alloc: Global, frame: &Frame) -> Result<String, AllocErro
             format!(in alloc; "{method} {target}")
         }
         Start::Answer { .. } => String::from_str(alloc, "- -"),
+    }
+}
+
+/// The operation of a request, as a word.
+pub(crate) fn operation_of(op: Op) -> &'static str {
+    match op {
+        Op::Create => "CREATE",
+        Op::Retrieve => "RETRIEVE",
+        Op::Update => "UPDATE",
+        Op::Delete => "DELETE",
+        Op::Notify => "NOTIFY",
     }
 }
 

@@ -31,7 +31,7 @@ use Rattle.cse_server.specs.declared.connection.Ended.TheVariants.{Memory as End
 use Rattle.command_words.specs.Command.{Serving, Task, http, replay, twin, serve}
 use Rattle.command_words.specs.Command.{generate}
 use Rattle.cse_cli.specs.Run.{status_behind}
-use Rattle.cse_cli.specs.Serve.{ServesObject}
+use Rattle.cse_cli.specs.Serve.{ByBind, ServesObject}
 use Rattle.turn_desk.specs.declared.shared.DeskSeat.{DeskSeat}
 use Rattle.journal_opening.specs.Opening.{IsRefused, StaysAsItWas}
 use Rattle.journal_opening.specs.declared.fault.OpeningFault.{OpeningFault}
@@ -161,13 +161,16 @@ module _ {F : Type 0} (tells : Type 0) (seen : F → List ℕ) (may_leave : F �
       × ((status ≡ status_of served.left.journal.is_failed Done)
       ⊎ (status ≡ status_of served.left.journal.is_failed ReadFault))
 
-  -- That by as many workers as the words say, where there are benches for so many, beside an
-  -- errand.
-  abbrev pub ServesByWords : {C B A : Type 0} → (KeptSeat F → C → B → KeptSeat F → A → B → Type 0)
+  -- That, each connection being attended to as HTTP or each as a WebSocket, as the words say, by as
+  -- many workers as they say, where there are benches for so many, beside an errand.
+  abbrev pub ServesByWords : {C B A W : Type 0}
+      → (KeptSeat F → C → B → KeptSeat F → A → B → Type 0)
+      → (KeptSeat F → C → B → KeptSeat F → W → B → Type 0)
       → (KeptSeat F → B → KeptSeat F → B → Type 0)
       → List B → B → B → Serving → KeptData EntityData F → Status → Type 0
-  ServesByWords attends does benches old new serving opened status =
-      ServesKept attends does (take (max 1 serving.workers + 1) benches) old new opened status
+  ServesByWords by_http by_ws does benches old new serving opened status = ByBind serving.bind
+      (ServesKept by_http does (take (max 1 serving.workers + 1) benches) old new opened status)
+      (ServesKept by_ws does (take (max 1 serving.workers + 1) benches) old new opened status)
 
   -- The command `serve` with an entity that was opened: connections were `served` by it, or nobody
   -- was. Nothing was read of the input or written to the output.

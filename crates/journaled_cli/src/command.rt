@@ -2,10 +2,12 @@
 ghost use Rattle.std.specs.Prelude.{◌≡◌};
 ghost use Rattle.command_words.specs.Reading.{task_by};
 ghost use Rattle.cse_server.specs.Attending.{conn_tells, link_tells};
+ghost use Rattle.desk_replies.specs.Rule.{plainly};
 ghost use Rattle.journaled_cli.specs.Run.{DoesTask, RunsTask, ServesByWords};
 ghost use Rattle.journaled_cli.specs.Run.{outside_by, refusal};
-ghost use Rattle.journaled_server.specs.Serving.{AttendsKept, SendsKept, TurnsGrow};
+ghost use Rattle.journaled_server.specs.Serving.{AttendsKept, AttendsKeptBy, SendsKept, TurnsGrow};
 ghost use Rattle.kept_file.specs.Crashes.{LeavesThis};
+ghost use Rattle.ws_binding.specs.Binding.{TalksWs};
 
 use crate::http::serve_streams;
 use crate::kept::KeptEntity;
@@ -116,11 +118,13 @@ where
     L: Drop,
     ensures { let told = outside_by S.left O.written O.puts C.readings
         (link_tells L.exchanges L.faults) in
-        let attends = AttendsKept TurnsGrow
+        let http = AttendsKept TurnsGrow
         (conn_tells D.Conn.left D.Conn.written D.Conn.puts D.Conn.Source.faults
         D.Conn.Sink.faults) C.readings (link_tells L.exchanges L.faults) in
+        let ws = AttendsKeptBy TurnsGrow (TalksWs plainly) C.readings
+        (link_tells L.exchanges L.faults) in
         let sends = SendsKept TurnsGrow C.readings (link_tells L.exchanges L.faults) in
-        let served = ServesByWords F.tells F.seen F.may_leave F.moment F.left_since attends sends
+        let served = ServesByWords F.tells F.seen F.may_leave F.moment F.left_since http ws sends
         server.benches.items streams.old.first streams.new.first in
         DoesTask F.tells F.seen F.may_leave F.moment F.left_since served (task_by task.entry)
         object (told streams.old.input streams.old.out streams.old.first)
@@ -179,11 +183,13 @@ where
     // that holds none of its home is refused and stays as it was. No other command is done.
     ensures runs { let told = outside_by S.left O.written O.puts C.readings
         (link_tells L.exchanges L.faults) in
-        let attends = AttendsKept TurnsGrow
+        let http = AttendsKept TurnsGrow
         (conn_tells D.Conn.left D.Conn.written D.Conn.puts D.Conn.Source.faults
         D.Conn.Sink.faults) C.readings (link_tells L.exchanges L.faults) in
+        let ws = AttendsKeptBy TurnsGrow (TalksWs plainly) C.readings
+        (link_tells L.exchanges L.faults) in
         let sends = SendsKept TurnsGrow C.readings (link_tells L.exchanges L.faults) in
-        let served = ServesByWords F.tells F.seen F.may_leave F.moment F.left_since attends sends
+        let served = ServesByWords F.tells F.seen F.may_leave F.moment F.left_since http ws sends
         server.benches.items streams.old.first streams.new.first in
         RunsTask F.tells F.seen F.may_leave F.moment F.left_since served
         (task_by command.entry.task) command.entry.home file

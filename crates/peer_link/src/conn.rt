@@ -6,6 +6,7 @@ ghost use Rattle.m2m_io.specs.Sides.{side_of};
 use http_frames::Frame;
 use http_target::BindFault;
 use m2m_io::{Connection, Failed, MemSink, MemSource, Sink, Source};
+use m2m_names::Rsc;
 use primitive_json::Reply;
 use service_observer::ReplyObserver;
 use std::alloc::Global;
@@ -70,4 +71,6 @@ impl ReplyObserver for MemPair {
     fn replied(&self, _: &Frame, _: Option<&BindFault>, _: &Reply) {}
 
     fn refused(&self, _: &Reply) {}
+
+    fn answered(&self, _: &[u8], _: Rsc) {}
 }

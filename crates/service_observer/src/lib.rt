@@ -1,4 +1,4 @@
-//! What is told of the work of a server, for who writes it down.
+//! What a server tells of its work to whoever writes it down.
 //!
 //! A connection is a `ReplyObserver`, and what sends items is an `ItemObserver`. Each is told what
 //! was done once it was done, and answers nothing; no clause says what comes of it. The objects in
@@ -6,6 +6,7 @@
 //!
 //! ```text
 //! conn.replied(&frame, None, &reply); // once the reply was written
+//! conn.answered(payload, Rsc::Ok); // once the reply to a message of JSON was
 //! link.let_go(&request); // for which no host is known
 //! ```
 #![tactic(auto)]

@@ -2,6 +2,7 @@
 use http_frames::Frame;
 use http_target::BindFault;
 use m2m_io::MemConn;
+use m2m_names::Rsc;
 use primitive_json::Reply;
 
 /// What is told of the replies of its connection.
@@ -11,10 +12,15 @@ pub trait ReplyObserver {
 
     /// The last reply was written, as what was read can be no message.
     fn refused(&self, reply: &Reply);
+
+    /// The reply to a payload was said, in a talk of messages of JSON alone. This is its status.
+    fn answered(&self, payload: &[u8], rsc: Rsc);
 }
 
 impl ReplyObserver for MemConn {
     fn replied(&self, _: &Frame, _: Option<&BindFault>, _: &Reply) {}
 
     fn refused(&self, _: &Reply) {}
+
+    fn answered(&self, _: &[u8], _: Rsc) {}
 }

@@ -1,8 +1,6 @@
 use Rattle.std.proofs.Common.{ℕ, List, Some, sym, subst}
-use denote.Param.Send.{sendable}
 use Rattle.m2m_io.specs.Told.{Tells}
 use Rattle.workers.specs.Gate.{door_tells}
-use Rattle.cse_cli.proofs.EntitiesSent.{served_tree_send}
 use Rattle.cse_cli.proofs.ServeLemmas.{opens_starved, opens_none, opens_open}
 use Rattle.cse_cli.proofs.serve.serve_door.Goals as goal
 
@@ -29,8 +27,4 @@ returns-clause-opens g c =
     opens_open {between = door_tells g.D.Door.opened g.D.Door.given g.D.Door.ended g.D.Door.faults c.open.new.self} c.now-reading.result c.now-reading.ensures
     (subst (λ (at : List ℕ). Tells (λ _. Some at) (g.D.Door.opened c.args.door) (g.D.Door.opened c.open.new.self)) c.as_bytes.ensures.value opened.ok)
     opened.given opened.ended opened.faults.steady
-    (rw (sym c.benches_for.ensures.front, sym c.in-Ok.ensures) c.serve_at_desk.ensures.serves)
-
--- an entity goes from thread to thread
-pub serve_at_desk-requires-send-O : goal.serve_at_desk-requires-send-O
-serve_at_desk-requires-send-O g c κs within = search (sendable, served_tree_send)
+    (rw (sym c.in-Ok.ensures) c.serve_bound.ensures.serves)

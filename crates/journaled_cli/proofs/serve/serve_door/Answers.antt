@@ -1,4 +1,4 @@
-use Rattle.std.proofs.Common.{refl, sym, inl, inr}
+use Rattle.std.proofs.Common.{refl, inl, inr}
 use Rattle.journaled_cli.proofs.serve.serve_door.Goals as goal
 
 -- nobody was served
@@ -7,7 +7,3 @@ returns-in_default g c = inr (record { status_is = inl refl; same = refl })
 
 pub returns-in-Err : goal.returns-in-Err
 returns-in-Err g c = inr (record { status_is = inr refl; same = refl })
-
--- the door opened
-pub returns : goal.returns
-returns g c = rw (sym c.benches_for.ensures.front) c.serve_kept.ensures
