@@ -6,6 +6,7 @@ import os
 import random
 import re
 import shutil
+import signal
 import socket
 import subprocess
 import sys
@@ -47,6 +48,29 @@ def has(tool, what):
         return True
     print(f"{NAME}: {tool} is not installed, so this is skipped: {what}", flush=True)
     return False
+
+
+class Browser:
+    """Headless Chromium, which shows a page until it is closed, and keeps its profile in this folder."""
+
+    def __init__(self, url, folder):
+        words = ["--headless", "--no-sandbox", "--disable-gpu", "--remote-debugging-port=0"]
+        self.process = subprocess.Popen(["chromium", *words, f"--user-data-dir={folder}/profile", url],
+                                        stdout=subprocess.DEVNULL, stderr=subprocess.DEVNULL, start_new_session=True)
+
+    def close(self):
+        """Ends all its processes, so that none writes into the folder any more."""
+        os.killpg(self.process.pid, signal.SIGKILL)
+        self.process.wait()
+        time.sleep(0.5)
+
+
+def waits_until(holds, seconds=30):
+    """Waits until this holds, or for so many seconds. Tells whether it does."""
+    last = time.monotonic() + seconds
+    while not holds() and time.monotonic() < last:
+        time.sleep(0.05)
+    return holds()
 
 
 def free_port():
