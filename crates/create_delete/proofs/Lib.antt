@@ -30,6 +30,7 @@ pub mod SilentLemmas
 pub mod SpendLemmas
 pub mod TellingLemmas
 pub mod ThoseLemmas
+pub mod UnheardLemmas
 pub mod UnsentLemmas
 pub mod UpdatableLemmas
 pub mod UpdatedLemmas

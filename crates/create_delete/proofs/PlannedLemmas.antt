@@ -1,6 +1,6 @@
 -- What is prepared where a request is judged, and no place refuses it.
 use Rattle.std.specs.Prelude.{unwrap_or}
-use Rattle.std.proofs.Common.{◌≡◌, ℕ, List, [], false, Option, Some, None, sym, ap, ◌∙◌}
+use Rattle.std.proofs.Common.{◌≡◌, ℕ, List, [], false, Option, Some, None, Result, Ok, Err, IfOk, IfErr, sym, ap, ◌∙◌, subst}
 use Rattle.std.proofs.lemmas.Option.{same_Some}
 use Rattle.std.specs.Option.{option_map_or}
 use Rattle.m2m_names.specs.declared.attributes.Attr.{Attr}
@@ -18,10 +18,12 @@ use Rattle.entity_model.specs.Entity.{EntityData, copy_requests, telling}
 use Rattle.entity_model.specs.Places.{Effect, refused, reply_to}
 use Rattle.entity_model.specs.Sound.{IsSoundEntity}
 use Rattle.request_rules.specs.Creation.{creation_of}
-use Rattle.request_rules.specs.Judged.{IsCreateOf, IsUpdateOf, creation_for}
+use Rattle.request_rules.specs.Judged.{IsCreateOf, IsUpdateOf, Judges, creation_for}
 use Rattle.request_rules.specs.Order.{creation_by, fault_at}
 use Rattle.request_rules.specs.declared.allowed.AllowedCreate.{AllowedCreate}
 use Rattle.request_rules.specs.declared.allowed.AllowedUpdate.{AllowedUpdate}
+use Rattle.request_rules.specs.declared.judging.Refusal.{Refusal}
+use Rattle.request_rules.specs.declared.judging.Refusal.TheVariants.{OutOfMemory}
 use Rattle.request_rules.specs.Requests.{content_for}
 use Rattle.request_rules.proofs.OrderLemmas.{found_at, nothing_on}
 use Rattle.create_delete.specs.Changing.{after_joining, create_effect, nodes_updated, effect_at, pushed_by, update_effect}
@@ -70,6 +72,10 @@ module _ (e : EntityData) (o : List ℕ) (request : RequestParts) (n : ℕ) (cre
             ∙ sym (told_after Create e o request n create.parent.now (after_joining e p.resource p.update) asked.parent none leaves);
       }
 
+  pub create_judged : (result : Result PreparedCreate Refusal) → IfOk result (λ (p : PreparedCreate). MayJoin e p.resource p.update) → IfOk result (λ (p : PreparedCreate). p.is_copied ≡ false → copy_requests e.home e.nodes (creation_changes e.nodes p.resource (gone_by p.update)) ≡ []) → IfOk result (λ (p : PreparedCreate). p.reply ≡ (create_effect request (creation_for e o create)).reply) → IfOk result (λ (p : PreparedCreate). after_joining e p.resource p.update ≡ (create_effect request (creation_for e o create)).after) → IfErr result (λ (f : Refusal). f ≡ OutOfMemory) → Judges result (fault_at Create e o request n) (IsPreparedCreate e o request n)
+  create_judged (Ok p) may unsent reply after _ = (none, create_prepared p may unsent reply after)
+  create_judged (Err f) _ _ _ _ memory = subst (λ (x : Refusal). Judges {X = PreparedCreate} (Err x) (fault_at Create e o request n) (IsPreparedCreate e o request n)) (sym memory) tt
+
 -- ---- an Update
 
 module _ (e : EntityData) (o : List ℕ) (request : RequestParts) (n : ℕ) (update : AllowedUpdate) (none : fault_at Update e o request n ≡ None) (asked : IsUpdateOf e request n update) where
@@ -107,6 +113,10 @@ module _ (e : EntityData) (o : List ℕ) (request : RequestParts) (n : ℕ) (upd
             ∙ ap (λ (m : ℕ). tells (gone_numbers e (record e { nodes = nodes_updated e p.resource })) (changes_by Update request m e (record e { nodes = nodes_updated e p.resource }))) (same ∙ number)
             ∙ sym (told_after Update e o request n update.target.now (record e { nodes = nodes_updated e p.resource }) asked.target none leaves);
       }
+
+  pub update_judged : (result : Result PreparedUpdate Refusal) → IfOk result (λ (p : PreparedUpdate). IsReplacement e p.resource) → IfOk result (λ (p : PreparedUpdate). p.resource.number ≡ update.target.now.number) → IfOk result (λ (p : PreparedUpdate). p.named ≡ attrs_of update.named.now) → IfOk result (λ (p : PreparedUpdate). p.gone ≡ pushed_by e p.resource) → IfOk result (λ (p : PreparedUpdate). p.reply ≡ (update_effect e request update.named.now update.target.now).reply) → IfOk result (λ (p : PreparedUpdate). record e { nodes = nodes_updated e p.resource } ≡ (update_effect e request update.named.now update.target.now).after) → IfErr result (λ (f : Refusal). f ≡ OutOfMemory) → Judges result (fault_at Update e o request n) (IsPreparedUpdate e o request n)
+  update_judged (Ok p) may same named gone reply after _ = (none, update_prepared p may same named gone reply after)
+  update_judged (Err f) _ _ _ _ _ _ memory = subst (λ (x : Refusal). Judges {X = PreparedUpdate} (Err x) (fault_at Update e o request n) (IsPreparedUpdate e o request n)) (sym memory) tt
 
 -- ---- a Delete
 

@@ -14,7 +14,7 @@ use Rattle.resource_model.specs.Resource.{ResourceData, has_number, is_ty}
 use Rattle.subscription_match.specs.Matching.{event_for}
 use Rattle.subscription_match.specs.Notices.{notes_of, notes_of_all, notices, told}
 use Rattle.subscription_match.specs.declared.drafts.DraftParts.{DraftParts}
-use Rattle.tree_model.specs.Changes.{deleted, deletion_changes}
+use Rattle.tree_model.specs.Changes.{ChangeData, deleted, deletion_changes}
 use Rattle.tree_model.specs.Tree.{at, children_of, instances_of, is_at_or_below, is_kin, is_taken, is_tree, is_under, is_well_formed, line_of, number_at, resource_number, subs_of}
 use Rattle.tree_model.proofs.ChangeLemmas.{line_none}
 use Rattle.tree_model.proofs.GrowthLemmas.{stands, tree_from_well_formed}
@@ -148,7 +148,7 @@ module _ (nodes : List ResourceData) (formed : is_well_formed nodes ≡ true) wh
   tree = tree_from_well_formed nodes formed
 
   -- nothing stands under an instance
-  instance_silent : (c : ResourceData) → at c.number nodes ≡ Some c → is_ty c.ty ContentInstance ≡ true → IsSilent c.number nodes
+  pub instance_silent : (c : ResourceData) → at c.number nodes ≡ Some c → is_ty c.ty ContentInstance ≡ true → IsSilent c.number nodes
   instance_silent c found instance = silent_from nodes tree c.number (λ t there sub under. no_child t there under) (λ s there under. absurd (no_child s there under))
     where
       no_child : (s : ResourceData) → at s.number nodes ≡ Some s → s.parent ≡ c.number → ⊥
@@ -159,7 +159,7 @@ module _ (nodes : List ResourceData) (formed : is_well_formed nodes ≡ true) wh
           let ty : c.ty ≡ ContentInstance = same_type c.ty ContentInstance (eqb-true _ _ instance) in
           both_ways _ refl (ap (λ (t : Ty). does_take t s.ty) (sym ty) ∙ takes)
 
-  sub_listed : (n : ℕ) (t : ResourceData) → at t.number nodes ≡ Some t → is_ty t.ty Subscription ≡ true → t.parent ≡ n → subs_of n nodes ≡ [] → ⊥
+  pub sub_listed : (n : ℕ) (t : ResourceData) → at t.number nodes ≡ Some t → is_ty t.ty Subscription ≡ true → t.parent ≡ n → subs_of n nodes ≡ [] → ⊥
   sub_listed n t found sub under none =
       both_ways _ (not_true_is (is_kin Subscription n t) (number_passes (λ s. not (is_kin Subscription n s)) t.number nodes t (unfiltered (is_kin Subscription n) nodes none) found))
       (and_from _ _ (eq-eqb t.parent n under) sub)
@@ -221,16 +221,16 @@ none_first n nodes none = by (subs_of n nodes) none
     by [] is = refl
     by (r ∷ rs) is = (let both : None ≡ Some r.number = is in cc)
 
-none_told : (home : HomeData) (nodes : List ResourceData) (going : List ℕ) (r : ResourceData) (rs : List ResourceData) → AllByRecursion (λ t. event_for going (deleted r) t ≡ None) rs → filter_map (told home nodes going (deleted r)) rs ≡ []
-none_told home nodes going r [] each = refl
-none_told home nodes going r (t ∷ rs) each = rw each.0 (none_told home nodes going r rs each.1)
+pub none_told : (home : HomeData) (nodes : List ResourceData) (going : List ℕ) (change : ChangeData) (rs : List ResourceData) → AllByRecursion (λ t. event_for going change t ≡ None) rs → filter_map (told home nodes going change) rs ≡ []
+none_told home nodes going change [] each = refl
+none_told home nodes going change (t ∷ rs) each = rw each.0 (none_told home nodes going change rs each.1)
 
-all_none : (home : HomeData) (nodes : List ResourceData) (going : List ℕ) (rs : List ResourceData) → AllByRecursion (λ r. notes_of home nodes going (deleted r) ≡ []) rs → notes_of_all home nodes going (map deleted rs) ≡ []
+pub all_none : (home : HomeData) (nodes : List ResourceData) (going : List ℕ) (rs : List ResourceData) → AllByRecursion (λ r. notes_of home nodes going (deleted r) ≡ []) rs → notes_of_all home nodes going (map deleted rs) ≡ []
 all_none home nodes going [] each = refl
 all_none home nodes going (r ∷ rs) each =
     ap (λ (ds : List DraftParts). ds ++ notes_of_all home nodes going (map deleted rs)) each.0 ∙ all_none home nodes going rs each.1
 
-each_picked : (P : ResourceData → Type 0) (p : ResourceData → Bool) (rs : List ResourceData) → AllByRecursion (λ r. p r ≡ true → P r) rs → AllByRecursion P (filter p rs)
+pub each_picked : (P : ResourceData → Type 0) (p : ResourceData → Bool) (rs : List ResourceData) → AllByRecursion (λ r. p r ≡ true → P r) rs → AllByRecursion P (filter p rs)
 each_picked P p [] each = tt
 each_picked P p (r ∷ rs) each = elim (cases_Bool (p r)) [
   | inl t ↦ rw t (each.0 t, each_picked P p rs each.1)
@@ -273,10 +273,10 @@ module _ (home : HomeData) (nodes : List ResourceData) (formed : is_well_formed 
   no_sub r there below = false_from_ne_true _ (λ sub.
       both_ways _ (not_beside r r there below there sub) (eq-eqb r.parent r.parent refl))
 
-  no_note : (r : ResourceData) → at r.number nodes ≡ Some r → is_at_or_below target.number nodes r ≡ true → notes_of home nodes going (deleted r) ≡ []
+  pub no_note : (r : ResourceData) → at r.number nodes ≡ Some r → is_at_or_below target.number nodes r ≡ true → notes_of home nodes going (deleted r) ≡ []
   no_note r there below =
       ap (λ (ds : List DraftParts). ds ++ notices home (deleted r))
-      (none_told home nodes going r nodes (each_of (λ t. event_for going (deleted r) t ≡ None) nodes (tree_ascends nodes tree_is) (no_event r there below)))
+      (none_told home nodes going (deleted r) nodes (each_of (λ t. event_for going (deleted r) t ≡ None) nodes (tree_ascends nodes tree_is) (no_event r there below)))
       ∙ rw (no_sub r there below) refl
 
   -- so nobody is told of the deletion

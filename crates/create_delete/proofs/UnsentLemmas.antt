@@ -53,7 +53,7 @@ none_gone home nodes c there none p (r ∷ rs) = elim (cases_Bool (is_instance c
   | inr f ↦ rw f (none_gone home nodes c there none p rs)
 ]
 
-filter_both : (p q : ResourceData → Bool) (rs : List ResourceData) → filter q (filter p rs) ≡ filter (λ s. p s && q s) rs
+pub filter_both : (p q : ResourceData → Bool) (rs : List ResourceData) → filter q (filter p rs) ≡ filter (λ s. p s && q s) rs
 filter_both p q [] = refl
 filter_both p q (r ∷ rs) = elim (cases_Bool (p r)) [
   | inl t ↦ elim (cases_Bool (q r)) [

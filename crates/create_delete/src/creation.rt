@@ -1,5 +1,5 @@
 //! Creation (TS-0001, 10.2.1): what it prepares, and what it then does.
-ghost use Rattle.std.specs.Prelude.{◌≡◌, ℕ, List, [], false, IfOk, OnOk, OnErr, IsTrue};
+ghost use Rattle.std.specs.Prelude.{◌≡◌, ℕ, List, [], false, IfOk, IfErr, OnOk, OnErr, IsTrue};
 ghost use Rattle.m2m_names.specs.Name.{is_originator};
 ghost use Rattle.m2m_names.specs.declared.operations.Op.TheVariants.{Create};
 ghost use Rattle.tree_model.specs.Changes.{creation_changes};
@@ -9,6 +9,7 @@ ghost use Rattle.entity_model.specs.Sound.{IsSoundEntity};
 ghost use Rattle.request_rules.specs.Creation.{size_named};
 ghost use Rattle.request_rules.specs.Judged.{IsCreateBy, Judges, creation_for};
 ghost use Rattle.request_rules.specs.Order.{fault_at};
+ghost use Rattle.request_rules.specs.declared.judging.Refusal.{Refusal};
 ghost use Rattle.create_delete.specs.Changing.{after_joining, create_effect, container_update_of};
 ghost use Rattle.create_delete.specs.Joining.{IsAllowed, MayJoin, gone_by};
 ghost use Rattle.create_delete.specs.Prepared.{IsPreparedCreate};
@@ -72,7 +73,7 @@ fn plan<T: Tree>(
         (IsPreparedCreate entity.now originator.now request.now parent) }
 {
     let create = judge_create(alloc, entity, originator, request, parent)?;
-    Ok(prepare(alloc, entity, originator, request, create)?)
+    prepare(alloc, entity, originator, request, create)
 }
 
 // The resource, what it does besides, and the reply.
@@ -82,7 +83,7 @@ fn prepare<T: Tree>(
     originator: &[u8],
     request: &Request,
     create: AllowedCreate<'_>,
-) -> Result<PreparedCreate, OutOfMemory>
+) -> Result<PreparedCreate, Refusal>
     requires originator { IsTrue (is_originator originator.now) }
     requires sound { IsSoundEntity entity.now }
     requires allowed { IsAllowed (creation_for entity.now originator.now create) }
@@ -94,6 +95,7 @@ fn prepare<T: Tree>(
         entity.now.nodes (creation_changes entity.now.nodes p.resource (gone_by p.update)) ≡ []) }
     ensures after { IfOk result (λ p. after_joining entity.now p.resource p.update
         ≡ (create_effect request.now (creation_for entity.now originator.now create.entry)).after) }
+    ensures memory { IfErr result (λ f. f ≡ Refusal.OutOfMemory) }
 {
     let update = container_update(alloc, entity, &create)?;
     let parent = create.parent;

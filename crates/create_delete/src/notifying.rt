@@ -6,7 +6,8 @@ ghost use Rattle.resource_model.specs.Home.{HomeData};
 ghost use Rattle.resource_model.specs.Resource.{ResourceData};
 ghost use Rattle.subscription_match.specs.Notices.{notes_of_all};
 ghost use Rattle.tree_model.specs.Changes.{creation_changes, deletion_changes, update_changes};
-ghost use Rattle.tree_model.specs.Tree.{at, children_of, has, is_well_formed, number_at, DoAscend};
+ghost use Rattle.tree_model.specs.Tree.{at, children_of, has, is_well_formed, number_at, subs_of};
+ghost use Rattle.tree_model.specs.Tree.{DoAscend};
 ghost use Rattle.entity_model.specs.Entity.{copy_requests};
 ghost use Rattle.entity_model.specs.Telling.{IsTold};
 ghost use Rattle.create_delete.specs.Joining.{gone_by};
@@ -33,7 +34,8 @@ pub(crate) fn copies_may_follow(parent: &Resource, resource: &Resource) -> bool
     }
 }
 
-/// What a creation tells, with room for it in the outbox. Where it isn't copied, no copy follows it.
+/// What a creation tells, with room for it in the outbox. Where it isn't copied, no copy follows
+/// it; and where no subscription stands under the parent, nobody is told of it.
 pub(crate) fn prepare_creation<T: Tree>(
     alloc: Global,
     tree: &T,
@@ -44,6 +46,9 @@ pub(crate) fn prepare_creation<T: Tree>(
     is_copied: bool,
 ) -> Result<Told, OutOfMemory>
     requires order { DoAscend (gone_by update.now) }
+    requires unheard { subs_of resource.now.parent (T.nodes tree.now) ≡ []
+        → notes_of_all home.now (T.nodes tree.now) (gone_by update.now)
+        (creation_changes (T.nodes tree.now) resource.now (gone_by update.now)) ≡ [] }
     requires unsent { is_copied ≡ false → copy_requests home.now (T.nodes tree.now)
         (creation_changes (T.nodes tree.now) resource.now (gone_by update.now)) ≡ [] }
     ensures told { IfOk result (IsTold home.now (T.nodes tree.now) (gone_by update.now)
@@ -57,11 +62,24 @@ pub(crate) fn prepare_creation<T: Tree>(
         None => &[],
     };
     let changes = Changes::of_creation(tree, resource, gone);
-    if !is_copied {
-        return prepare_uncopied(alloc, tree, home, outbox, gone, changes);
+    if is_copied {
+        let again = Changes::of_creation(tree, resource, gone);
+        return prepare_telling(alloc, tree, home, outbox, gone, changes, again);
     }
-    let again = Changes::of_creation(tree, resource, gone);
-    prepare_telling(alloc, tree, home, outbox, gone, changes, again)
+    if is_unwatched(tree, resource.parent()) {
+        return Ok(nothing_told(alloc));
+    }
+    prepare_uncopied(alloc, tree, home, outbox, gone, changes)
+}
+
+// Whether no subscription stands under the resource of a number.
+fn is_unwatched<T: Tree>(tree: &T, number: u64) -> bool
+    ensures { IsTrue result → subs_of number (T.nodes tree.now) ≡ [] }
+{
+    match tree.sub(number, 0) {
+        Some(_) => false,
+        None => true,
+    }
 }
 
 /// What an Update of these attributes tells that leaves a resource so and pushes out the instances
@@ -176,10 +194,10 @@ fn is_unheard_from<T: Tree>(tree: &T, resource: &Resource) -> bool
         → notes_of_all home (T.nodes tree.now) going
         (deletion_changes (T.nodes tree.now) resource.now.number) ≡ [] }
 {
-    match tree.sub(resource.parent(), 0) {
-        Some(_) => false,
-        None => is_silent(tree, resource.number()),
+    if !is_unwatched(tree, resource.parent()) {
+        return false;
     }
+    is_silent(tree, resource.number())
 }
 
 // Whether it is sure that no subscription stands under the resource of a number, or below.

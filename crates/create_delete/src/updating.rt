@@ -1,5 +1,5 @@
 //! Updates (TS-0001, 10.2.4).
-ghost use Rattle.std.specs.Prelude.{◌≡◌, IfOk, OnOk, OnErr, IsTrue, Some};
+ghost use Rattle.std.specs.Prelude.{◌≡◌, IfOk, IfErr, OnOk, OnErr, IsTrue, Some};
 ghost use Rattle.resource_model.specs.Resource.{ResourceData};
 ghost use Rattle.tree_model.specs.Tree.{at};
 ghost use Rattle.m2m_names.specs.Name.{is_originator};
@@ -8,6 +8,7 @@ ghost use Rattle.entity_model.specs.Places.{ComesTo};
 ghost use Rattle.entity_model.specs.Sound.{IsSoundEntity};
 ghost use Rattle.request_rules.specs.Judged.{IsUpdateBy, Judges};
 ghost use Rattle.request_rules.specs.Order.{fault_at};
+ghost use Rattle.request_rules.specs.declared.judging.Refusal.{Refusal};
 ghost use Rattle.create_delete.specs.Changes.{attrs_of};
 ghost use Rattle.create_delete.specs.Changing as spec;
 ghost use Rattle.create_delete.specs.NewResource.{IsReplacement};
@@ -73,7 +74,7 @@ fn plan<T: Tree>(
         (IsPreparedUpdate entity.now originator.now request.now target) }
 {
     let update = judge_update(alloc, entity, originator, request, target)?;
-    Ok(prepare(alloc, entity, request, update)?)
+    prepare(alloc, entity, request, update)
 }
 
 // The resource, what was named of it, what it pushes out, and the reply.
@@ -82,7 +83,7 @@ fn prepare<T: Tree>(
     entity: &Entity<T>,
     request: &Request,
     update: AllowedUpdate<'_>,
-) -> Result<PreparedUpdate, OutOfMemory>
+) -> Result<PreparedUpdate, Refusal>
     requires sound { IsSoundEntity entity.now }
     requires allowed { IsUpdatable entity.now update.named.now update.target.now }
     requires parts { IsUpdateBy entity.now update.target.now update.named.now update }
@@ -96,6 +97,7 @@ fn prepare<T: Tree>(
         record entity.now { nodes = spec.nodes_updated entity.now p.resource }
         ≡ (spec.update_effect entity.now request.now
         update.entry.named.now update.entry.target.now).after) }
+    ensures memory { IfErr result (λ f. f ≡ Refusal.OutOfMemory) }
 {
     let members = update.named;
     let resource = updated_resource(alloc, entity, update)?;

@@ -1,5 +1,5 @@
 -- What comes of a request to a resource, and that it is a step.
-use Rattle.std.proofs.Common.{◌≡◌, ◌⊎◌, ℕ, List, [], true, false, Option, Some, None, Result, Ok, Err, inl, inr, refl, sym, ap, subst, ◌∙◌}
+use Rattle.std.proofs.Common.{◌≡◌, ◌⊎◌, ℕ, List, true, false, Option, Some, None, Result, Ok, Err, inl, inr, refl, sym, ap, subst, ◌∙◌}
 use Rattle.std.specs.Option.{option_map_or}
 use Rattle.m2m_names.specs.declared.codes.Rsc.{Rsc}
 use Rattle.m2m_names.specs.declared.codes.Rsc.TheVariants.{BadRequest, NotFound, NotReachable}
@@ -11,9 +11,9 @@ use Rattle.primitive_json.specs.declared.reply.ReplyParts.{ReplyParts}
 use Rattle.primitive_json.specs.declared.request.RequestParts.{RequestParts}
 use Rattle.tree_model.specs.Tree.{has}
 use Rattle.addressing.specs.Addresses.{address_of}
-use Rattle.addressing.specs.Laws.{spot_named}
 use Rattle.addressing.specs.Names.{segments_of, spot_of}
 use Rattle.addressing.specs.declared.addr.Addr.{Addr}
+use Rattle.addressing.specs.declared.addr.Addr.TheVariants.{Local}
 use Rattle.addressing.specs.declared.addr.AddrFault.{AddrFault}
 use Rattle.addressing.specs.declared.spot.Spot.{Spot}
 use Rattle.addressing.specs.declared.spot.Spot.TheVariants.{Poll}
@@ -27,9 +27,9 @@ use Rattle.cse_machine.specs.Answer.{EventEffect, address_effect, answer_places,
 use Rattle.retarget.specs.Routes.{forwarded, routed}
 use Rattle.retarget.specs.declared.routing.Route.{Route}
 use Rattle.retarget.specs.declared.routing.Route.TheVariants as to
-use Rattle.group_fanout.specs.Fan.{IsCutShortAt, served_members}
 use Rattle.group_fanout.specs.Rights.{claimed_originator}
 use Rattle.cse_machine.specs.Step.{IsAnswered, IsUnswept, Occurs, Step}
+use Rattle.cse_machine.proofs.RouteLemmas.{stays_here}
 
 -- ---- outcomes
 
@@ -143,15 +143,25 @@ heard_answers e after request addr outcome heard is told left =
     let gives = heard_gives e request addr heard is in
     came_of request e after outcome (told ∙ ap (λ (x : EventEffect). x.outcome) gives) (left ∙ ap (λ (x : EventEffect). x.after) gives)
 
--- and where memory runs out, as many of its members are done as its address says
-pub heard_cut : (e after : EntityData) (request : RequestParts) (spot : Option Spot) (done : ℕ) → first_fault (first_places e request) ≡ None → spot ≡ spot_named e.home request.to e.nodes → IsCutShortAt e (served_members e request spot) done after → IsAnswered e request (Starved done) after
-heard_cut e after request spot done heard named cut =
-    subst (λ (requests : List RequestParts). IsCutShortAt e requests done after)
-    (ap (served_members e request) named
-    ∙ ap (λ (f : Option Rsc). option_map_or (λ (r : Rsc). []) f (served_members e request (spot_named e.home request.to e.nodes))) (sym heard))
-    cut
+-- ---- as its address leads here
 
--- and what answers it on what is left is a step
+pub here_occurs : (event : Event) (e after : EntityData) (request : RequestParts) (addr : Addr) (segments : List (List ℕ)) (spot : Option Spot) (reply : ReplyParts)
+    → event ≡ Ask request → first_fault (first_places e request) ≡ None → address_of e.home request.to ≡ Ok addr → addr ≡ Local segments → spot ≡ spot_of segments e.nodes
+    → reply ≡ (spot_effect e request spot).reply → after ≡ (spot_effect e request spot).after → Occurs event e (Done reply) after
+here_occurs event e after request addr segments spot reply asks heard addressed here named told left =
+    let stays = sym (stays_here e request addr segments here) in
+    subst (λ (v : Event). Occurs v e (Done reply) after) (sym asks)
+    (heard_answers e after request addr (Done reply) heard addressed
+    (ap Done told
+    ∙ ap (λ (s : Option Spot). Done (spot_effect e request s).reply) named
+    ∙ ap (λ (x : EventEffect). x.outcome) stays)
+    (left
+    ∙ ap (λ (s : Option Spot). (spot_effect e request s).after) named
+    ∙ ap (λ (x : EventEffect). x.after) stays))
+
+-- ---- as a step
+
+-- what answers it on what is left is a step
 answered_step : (reading : ℕ) (request : RequestParts) (before after : EntityData) (outcome : Outcome) → IsAnswered (swept reading before) request outcome after → Step reading (Ask request) before outcome after
 answered_step reading request before after (Done reply) answered = answered
 answered_step reading request before after (Forward poa onward) answered = answered

@@ -96,19 +96,38 @@ fn has_taken(outcome: &Outcome, before: u64, after: u64) -> bool
     }
 }
 
-// What an event gives on the entity as it stands.
+// What an event gives on the entity as it stands. A request goes where its address leads: here, or
+// elsewhere.
 fn occur<T: Tree>(alloc: Global, entity: &mut Entity<T>, event: &Event) -> Outcome
     ensures { Occurs event.now entity.old result entity.new }
 {
     match event {
         Event::Ask(request) => match judge(alloc, entity, request) {
-            Ok(heard) => lead(alloc, entity, request, heard.originator, &heard.addr),
+            Ok(heard) => match &heard.addr {
+                Addr::Local(segments) => {
+                    let spot = name_segments(&entity.tree, segments);
+                    match reach(alloc, entity, request, heard.originator, segments, spot) {
+                        Ok(reply) => Outcome::Done(reply),
+                        Err(starved) => Outcome::Starved { done: starved.done },
+                    }
+                }
+                Addr::Foreign(_) | Addr::OtherProvider => {
+                    lead_elsewhere(alloc, entity, request, heard.originator, &heard.addr)
+                }
+            },
             Err(Refusal::Fault(fault)) => turn_away(alloc, entity, request, fault),
             Err(Refusal::OutOfMemory) => Outcome::Starved { done: 0 },
         },
-        Event::Take => Outcome::Item(take_next(entity)),
+        Event::Take => give_next(entity),
         Event::Tick => Outcome::Ticked,
     }
+}
+
+// The next item of the outbox is given away.
+fn give_next<T: Tree>(entity: &mut Entity<T>) -> Outcome
+    ensures { Occurs Event.Take entity.old result entity.new }
+{
+    Outcome::Item(take_next(entity))
 }
 
 // The outcome of a request that a place refuses before its address is resolved.
@@ -204,35 +223,6 @@ fn judge_address<'a, T: Tree>(
 }
 
 // ---- where it goes
-
-// What it gives by where its address leads: here, or elsewhere.
-#[tactic(auto, using(group_fanout::proofs::FanLemmas::none_cut))]
-fn lead<T: Tree>(
-    alloc: Global,
-    entity: &mut Entity<T>,
-    request: &Request,
-    originator: &[u8],
-    addr: &Addr,
-) -> Outcome
-    requires heard { first_fault (first_places entity.old request.now) ≡ None }
-    requires originator { IsTrue (is_originator originator.now) }
-    requires claimed { claimed_originator entity.old.home request.now ≡ originator.now }
-    requires addressed { address_of entity.old.home request.now.to ≡ Ok addr.now }
-    ensures { IsAnswered entity.old request.now result entity.new }
-{
-    match addr {
-        Addr::Local(segments) => {
-            let spot = name_segments(&entity.tree, segments);
-            match reach(alloc, entity, request, originator, segments, spot) {
-                Ok(reply) => Outcome::Done(reply),
-                Err(starved) => Outcome::Starved { done: starved.done },
-            }
-        }
-        Addr::Foreign(_) | Addr::OtherProvider => {
-            lead_elsewhere(alloc, entity, request, originator, addr)
-        }
-    }
-}
 
 // The outcome where its address leads elsewhere. Nothing is changed.
 #[tactic(auto, using(group_fanout::proofs::FanLemmas::none_cut))]

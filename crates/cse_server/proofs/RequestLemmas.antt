@@ -1,5 +1,5 @@
 -- The request that a frame binds to.
-use Rattle.std.proofs.Common.{◌≡◌, ℕ, List, [], ◌∷◌, Option, Some, None, Result, Ok, Err, refl, ap, subst}
+use Rattle.std.proofs.Common.{◌≡◌, ◌⊎◌, ℕ, List, [], ◌∷◌, Option, Some, None, Result, Ok, Err, inl, inr, refl, ap, subst}
 use Rattle.std.specs.List.{cons_option}
 use Rattle.std.specs.Option.{option_map, unwrap_or}
 use Rattle.std.specs.Result.{result_ok}
@@ -7,6 +7,7 @@ use Rattle.primitive_json.specs.declared.reply.ReplyParts.{ReplyParts}
 use Rattle.primitive_json.specs.declared.request.RequestParts.{RequestParts}
 use Rattle.http_frames.specs.declared.frame.Frame.{Frame}
 use Rattle.http_target.specs.declared.fault.BindFault.{BindFault}
+use Rattle.http_target.specs.declared.fault.BindFault.TheVariants.{OutOfMemory}
 use Rattle.http_binding.specs.Binding.{binding}
 use Rattle.cse_server.specs.Talk.{request_in, requests_in, reply_for}
 
@@ -21,6 +22,11 @@ bound_ok (Err fault) request e = absurd (subst IsNone e tt)
 -- the frame binds to the request that is in it
 pub binds : (frame : Frame) (request : RequestParts) → request_in frame ≡ Some request → binding frame ≡ Ok request
 binds frame request e = bound_ok (binding frame) request e
+
+-- where it has a fault, and memory didn't run out, it binds to none
+pub unbound : (frame : Frame) (fault : BindFault) → (fault ≡ OutOfMemory → ⊥) → (fault ≡ OutOfMemory) ⊎ (binding frame ≡ Err fault) → request_in frame ≡ None
+unbound frame fault none (inl memory) = absurd (none memory)
+unbound frame fault none (inr told) = ap result_ok told
 
 -- a value is found where it is one that is known
 pub no_id : {B : Type 0} (now : B → List ℕ) (found : Option B) (id : List ℕ) → option_map now found ≡ Some id

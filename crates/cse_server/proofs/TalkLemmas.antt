@@ -29,10 +29,10 @@ first_open x xs place stays = elim (cases_Bool (closes place x)) [
 rest_open : (x : Frame) (xs : List Frame) (place : ℕ) → some_closes (x ∷ xs) place ≡ false → some_closes xs (place + 1) ≡ false
 rest_open x xs place stays = rw (first_open x xs place stays) at stays
 
-none_left : (q : RequestParts) (rest : List RequestParts) → length {A = ReplyParts} [] ≡ length (q ∷ rest) → ⊥
+pub none_left : (q : RequestParts) (rest : List RequestParts) → length {A = ReplyParts} [] ≡ length (q ∷ rest) → ⊥
 none_left q rest e = omega (arith, e)
 
-some_left : (o : ReplyParts) (rs : List ReplyParts) → length (o ∷ rs) ≡ 0 → ⊥
+pub some_left : (o : ReplyParts) (rs : List ReplyParts) → length (o ∷ rs) ≡ 0 → ⊥
 some_left o rs e = omega (arith, e)
 
 -- ---- joined
@@ -56,12 +56,12 @@ pub requests_in-append : (xs ys : List Frame) → requests_in (xs ++ ys) ≡ req
 requests_in-append xs ys = filter_map-append request_in xs ys
 
 -- as many replies as requests are used up by them
-behind_append : (r : Option RequestParts) (rest : List RequestParts) (rs more : List ReplyParts) → length rs ≡ length (cons_option r rest) → replies_behind r (rs ++ more) ≡ replies_behind r rs ++ more
+pub behind_append : (r : Option RequestParts) (rest : List RequestParts) (rs more : List ReplyParts) → length rs ≡ length (cons_option r rest) → replies_behind r (rs ++ more) ≡ replies_behind r rs ++ more
 behind_append None rest rs more same = refl
 behind_append (Some q) rest [] more same = absurd (none_left q rest same)
 behind_append (Some q) rest (o ∷ rs) more same = refl
 
-behind_length : (r : Option RequestParts) (rest : List RequestParts) (rs : List ReplyParts) → length rs ≡ length (cons_option r rest) → length (replies_behind r rs) ≡ length rest
+pub behind_length : (r : Option RequestParts) (rest : List RequestParts) (rs : List ReplyParts) → length rs ≡ length (cons_option r rest) → length (replies_behind r rs) ≡ length rest
 behind_length None rest rs same = same
 behind_length (Some q) rest [] same = absurd (none_left q rest same)
 behind_length (Some q) rest (o ∷ rs) same = omega (arith, same)

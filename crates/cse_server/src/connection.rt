@@ -1,14 +1,16 @@
 //! One connection, from its first frame to its end.
-ghost use Rattle.std.specs.Prelude.{◌≡◌, ◌<◌, ◌+◌, length, false, Some, None, MatchOption};
-ghost use Rattle.std.specs.Result.{result_ok};
+ghost use Rattle.std.specs.Prelude.{◌≡◌, ◌<◌, ◌+◌, length, false, true, Some, None, IfSome};
+ghost use Rattle.std.specs.Prelude.{MatchOption};
 ghost use Rattle.m2m_io.specs.Counts.{CountsFault};
+ghost use Rattle.m2m_value.specs.Sound.{IsSound};
 ghost use Rattle.desk_replies.specs.Rule.{plainly};
+ghost use Rattle.cse_server.specs.Closing.{closes};
 ghost use Rattle.cse_server.specs.Outside.{EndsByFault, link_told, outside, sink_told};
 ghost use Rattle.http_frames.specs.Inbox.{TakesNext, most_held, stream_of};
 ghost use Rattle.http_frames.specs.declared.frame.Side.TheVariants.{Request as AsRequest};
-ghost use Rattle.cse_server.specs.Talk.{request_in};
+ghost use Rattle.http_binding.specs.Replying.{reply_text};
 ghost use Rattle.cse_server.specs.Connection.{Serves, ServesFrom};
-ghost use Rattle.cse_server.specs.Way.{AnswersFrame, Goes, Hears, Refuses};
+ghost use Rattle.cse_server.specs.Way.{AnswersFrame, Goes, Refuses, SaysTurn, is_put};
 
 use crate::closing::{MOST_FRAMES, closes};
 use crate::replying::{id_of, put_last_reply, put_told, refusal_of};
@@ -17,9 +19,9 @@ use desk_replies::{Plainly, Replier};
 use http_binding::{BindFault, BodyRoom, ReplyRoom, to_request_in};
 use http_frames::{Frame, FrameFault, Inbox, Next, PutFault};
 use m2m_io::{Clock, Connection, Link};
-use primitive_json::{Reply, Request};
+use primitive_json::Reply;
 use service_observer::ReplyObserver;
-use std::alloc::{AllocError as OutOfMemory, Global};
+use std::alloc::Global;
 use turn_desk::Desk;
 
 /// How a connection ended.
@@ -85,16 +87,6 @@ struct Heard {
     frame: Frame,
 }
 
-/// The request that a frame binds to, or why it binds to none.
-fn parted(asked: Result<Request, BindFault>) -> (Option<Request>, Option<BindFault>)
-    ensures { result.0 ≡ result_ok asked }
-{
-    match asked {
-        Ok(request) => (Some(request), None),
-        Err(fault) => (None, Some(fault)),
-    }
-}
-
 /// Ends a connection on which no frame can stand.
 fn end_refused<X: Connection + ReplyObserver>(
     alloc: Global,
@@ -133,38 +125,40 @@ fn read_next<X: Connection>(
     inbox.next_request(alloc, conn)
 }
 
+/// Writes the reply to a frame that was heard, and tells the connection of it, and why the frame
+/// binds to no request. None where the connection goes on.
+fn say_reply<X: Connection + ReplyObserver>(
+    alloc: Global,
+    conn: &mut X,
+    room: &mut ReplyRoom,
+    heard: &Heard,
+    fault: Option<&BindFault>,
+    reply: &Reply,
+) -> Option<Ended>
+    ensures says { SaysTurn heard.now.place heard.now.frame result
+        (reply_text reply.now (closes heard.now.place heard.now.frame))
+        (sink_told (X.written conn.old) (X.puts conn.old))
+        (sink_told (X.written conn.new) (X.puts conn.new)) }
+    ensures sound { is_put result ≡ true → IfSome reply.now.pc IsSound }
+    ensures writes { EndsByFault (Some Ended.WriteFault) result
+        (X.Sink.faults conn.old) (X.Sink.faults conn.new) }
+    ensures left { X.left conn.new ≡ X.left conn.old }
+    ensures read_faults { X.Source.faults conn.new ≡ X.Source.faults conn.old }
+    ensures holds { (X.kept_by_read conn.new).holds ≡ (X.kept_by_read conn.old).holds }
+{
+    let close = closes(heard.place, &heard.frame);
+    match put_told(alloc, conn, room, &heard.frame, fault, reply, close) {
+        Ok(()) if close => Some(Ended::Closed),
+        Ok(()) => None,
+        Err(fault) => Some(Ended::from(fault)),
+    }
+}
+
 impl<D, W> Answerer<'_, D, W>
 where
     D: Desk<Event = Event, Outcome = Outcome>,
     W: Replier,
 {
-    /// The reply to a frame: to the request that it binds to, if any.
-    fn reply_for<C: Clock, L: Link>(
-        &self,
-        seat: &mut D::Seat,
-        clock: &mut C,
-        link: &mut L,
-        frame: &Frame,
-        asked: Option<Request>,
-    ) -> Result<Reply, OutOfMemory>
-        requires seats { D.seats self.now.desk.now seat.old }
-        requires asked { asked ≡ request_in frame.now }
-        ensures seats { D.seats self.now.desk.now seat.new }
-        ensures hears { Hears (W.rule self.now.replier.now) D.grown seat.old seat.new
-            (C.readings clock.old) (C.readings clock.new)
-            (link_told (L.exchanges link.old) (L.faults link.old))
-            (link_told (L.exchanges link.new) (L.faults link.new)) frame.now result }
-    {
-        match asked {
-            None => refusal_of(self.alloc, frame),
-            Some(request) => {
-                let id = id_of(frame, &request);
-                self.replier
-                    .reply(self.alloc, self.desk, seat, clock, link, id, request)
-            }
-        }
-    }
-
     /// Answers a frame. None where the connection goes on.
     fn answer<X: Connection + ReplyObserver, C: Clock, L: Link>(
         &self,
@@ -192,27 +186,29 @@ where
         ensures holds { (X.kept_by_read conn.new).holds ≡ (X.kept_by_read conn.old).holds }
         ensures inbox { rooms.new.inbox ≡ rooms.old.inbox }
     {
-        let asked = to_request_in(self.alloc, &mut rooms.bodies, &heard.frame);
-        if let Err(BindFault::OutOfMemory) = asked {
-            return Some(Ended::Memory);
-        }
-        let (request, fault) = parted(asked);
-        let Ok(reply) = self.reply_for(seat, clock, link, &heard.frame, request) else {
-            return Some(Ended::Memory);
-        };
-        let close = closes(heard.place, &heard.frame);
-        match put_told(
-            self.alloc,
-            conn,
-            &mut rooms.replies,
-            &heard.frame,
-            fault.as_ref(),
-            &reply,
-            close,
-        ) {
-            Ok(()) if close => Some(Ended::Closed),
-            Ok(()) => None,
-            Err(fault) => Some(Ended::from(fault)),
+        match to_request_in(self.alloc, &mut rooms.bodies, &heard.frame) {
+            Ok(request) => {
+                let id = id_of(&heard.frame, &request);
+                let Ok(reply) = self
+                    .replier
+                    .reply(self.alloc, self.desk, seat, clock, link, id, request)
+                else {
+                    return Some(Ended::Memory);
+                };
+                say_reply(self.alloc, conn, &mut rooms.replies, heard, None, &reply)
+            }
+            Err(fault) => {
+                if let BindFault::OutOfMemory = fault {
+                    return Some(Ended::Memory);
+                }
+                match refusal_of(self.alloc, &heard.frame) {
+                    Ok(reply) => {
+                        let told = Some(&fault);
+                        say_reply(self.alloc, conn, &mut rooms.replies, heard, told, &reply)
+                    }
+                    Err(_) => Some(Ended::Memory),
+                }
+            }
         }
     }
 

@@ -1,9 +1,9 @@
 //! The reply that an outcome gives.
-ghost use Rattle.std.specs.Prelude.{◌≡◌, IfOk, IfSome, IsUtf8};
+ghost use Rattle.std.specs.Prelude.{◌≡◌, IfOk, IfSome, IsUtf8, None};
 ghost use Rattle.http_forwarding.specs.Carries.{link_told};
 ghost use Rattle.primitive_json.specs.declared.request.RequestParts.{RequestParts};
 ghost use Rattle.cse_machine.specs.Answer.{starved};
-ghost use Rattle.desk_replies.specs.Replies.{RepliesOnward, RepliesOver};
+ghost use Rattle.desk_replies.specs.Replies.{RepliesOnward, RepliesOver, reply_of};
 
 use cse_machine::Outcome;
 use http_forwarding::carry;
@@ -52,6 +52,27 @@ pub fn reply_onward<L: Link>(alloc: Global, link: &mut L, poa: &Url, request: Re
     }
 }
 
+// The reply by an outcome that isn't one. It stands apart, so that the parts of a request that goes
+// on aren't looked at where there is a reply.
+#[inline(never)]
+fn reply_elsewhere<L: Link>(
+    alloc: Global,
+    link: &mut L,
+    id: &[u8],
+    outcome: Outcome,
+) -> Result<Reply, OutOfMemory>
+    requires text { IsUtf8 id.now }
+    requires other { reply_of outcome ≡ None }
+    ensures { (request : RequestParts) → request.rqi ≡ id.now
+        → RepliesOver request outcome (link_told (L.exchanges link.old) (L.faults link.old))
+        (link_told (L.exchanges link.new) (L.faults link.new)) result }
+{
+    match outcome {
+        Outcome::Forward { poa, request } => Ok(reply_onward(alloc, link, &poa, request)),
+        _ => starved_reply(alloc, id),
+    }
+}
+
 /// The reply to the request with this identifier by the outcome of its event. The link is for a
 /// request that goes on to another CSE.
 pub fn reply_over<L: Link>(
@@ -67,7 +88,6 @@ pub fn reply_over<L: Link>(
 {
     match outcome {
         Outcome::Done(reply) => Ok(reply),
-        Outcome::Forward { poa, request } => Ok(reply_onward(alloc, link, &poa, request)),
-        _ => starved_reply(alloc, id),
+        _ => reply_elsewhere(alloc, link, id, outcome),
     }
 }

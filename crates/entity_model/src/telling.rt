@@ -169,6 +169,19 @@ pub(crate) fn append_all(outbox: &mut Outbox, moment: u64, notes: Vec<Note>)
     if notes.is_empty() {
         return;
     }
+    append_each(outbox, moment, notes);
+}
+
+// Appends them one after another. Notes are large: what moves them stands apart, where nothing is
+// prepared for it unless there are some.
+#[inline(never)]
+fn append_each(outbox: &mut Outbox, moment: u64, notes: Vec<Note>)
+    requires room { length notes.items ≤ outbox.old.room }
+    requires order { AllByRecursion (λ (i : Item). i.since ≤ moment) outbox.old.items }
+    ensures items { outbox.new.items
+        ≡ outbox.old.items ++ items_from outbox.old.count moment notes.items }
+    ensures count { outbox.new.count ≡ numbered_after outbox.old.count notes.items }
+{
     for note in notes {
         outbox.append(note, moment);
     }
@@ -236,7 +249,8 @@ fn remove_spent<T: Tree>(tree: &mut T, numbers: Vec<u64>)
 
 /// Appends what is told to the outbox at a moment, and lowers the subscriptions: those to which
 /// some are left are counted anew one after another, and those to which none is left go in one
-/// pass. It can't fail, as there is room for the notes, and a removal needs no memory.
+/// pass. Where none that counts is told something, the tree isn't asked. It can't fail, as there is
+/// room for the notes, and a removal needs no memory.
 pub fn tell<T: Tree>(tree: &mut T, outbox: &mut Outbox, moment: u64, told: Told)
     requires tree { IsTrue (is_tree (T.nodes tree.old)) }
     requires room { length told.notes.items ≤ outbox.old.room }
@@ -248,6 +262,9 @@ pub fn tell<T: Tree>(tree: &mut T, outbox: &mut Outbox, moment: u64, told: Told)
     ensures count { outbox.new.count ≡ numbered_after outbox.old.count told.notes.items }
 {
     append_all(outbox, moment, told.notes);
+    if told.left.is_empty() {
+        return;
+    }
     count_all_anew(tree, told.left);
     remove_spent(tree, told.spent);
 }

@@ -137,6 +137,7 @@ impl Outbox {
 
     /// Appends a note at a moment, which isn't before that of any item; its request gets the next
     /// number as its identifier. No memory is taken.
+    #[inline(always)]
     pub fn append(&mut self, note: Note, since: u64)
         requires room { 0 < self.old.room }
         requires order { AllByRecursion (λ (i : Item). i.since ≤ since) self.old.items }
@@ -220,6 +221,7 @@ impl Outbox {
     }
 
     /// Takes the first item, wherever it leads, with its number and its moment.
+    #[inline(always)]
     pub fn take_item(&mut self) -> Option<Item>
         ensures item { result ≡ find is_item self.old.items }
         ensures rest { self.new ≡ taken is_item self.old }

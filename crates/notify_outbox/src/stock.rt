@@ -129,6 +129,7 @@ fn fill(node: &mut LinkedList<Item>, item: Item)
 }
 
 /// A node with this item; no memory is taken.
+#[inline(always)]
 pub(crate) fn node_of(nodes: &mut LinkedList<Item>, item: Item) -> LinkedList<Item>
     requires { 0 < length nodes.old }
     ensures node { result ≡ item ∷ [] }

@@ -23,9 +23,9 @@ pub taken_first : (items : List Item) (note : NoteParts) → option_map (λ (i :
 taken_first [] note e = cc
 taken_first (x ∷ items) note e = (x, refl, same_Some x.note note e)
 
-pub is_none : (given : Option NoteParts) → ((note : NoteParts) → given ≡ Some note → ⊥) → given ≡ None
+pub is_none : (given : Option Item) → ((item : Item) → given ≡ Some item → ⊥) → given ≡ None
 is_none None some = refl
-is_none (Some note) some = absurd (some note refl)
+is_none (Some item) some = absurd (some item refl)
 
 -- where none is taken there is none
 pub taken_none : (items : List Item) → option_map (λ (i : Item). i.note) (find is_item items) ≡ None → items ≡ []

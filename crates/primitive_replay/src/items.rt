@@ -77,8 +77,8 @@ fn put_items<O: Sink>(alloc: Global, outbox: &mut Outbox, out: &mut O) -> Status
     ensures writes { EndsByFault Status.WriteFault result (O.faults out.old) (O.faults out.new) }
 {
     let mut room = Vec::new(alloc);
-    'items: while let Some(note) = outbox.take_first() {
-        if let Some(status) = put_note(alloc, &mut room, out, note) {
+    'items: while let Some(item) = outbox.take_item() {
+        if let Some(status) = put_note(alloc, &mut room, out, item.note) {
             return status;
         }
     }

@@ -1,9 +1,9 @@
 //! Drafts as items of the outbox.
-ghost use Rattle.std.specs.Prelude.{◌≡◌, IfOk, IsUtf8};
+ghost use Rattle.std.specs.Prelude.{◌≡◌, ◌<◌, ◌∷◌, [], ◌++◌, length, vec_capacity, IfOk, OnOk};
 ghost use Rattle.subscription_match.specs.Items as spec;
 
 use crate::destinations::aim;
-use crate::drafts::{Draft, DraftParts};
+use crate::drafts::Draft;
 use crate::naming::own_cse_id;
 use m2m_names::Op;
 use m2m_value::Text;
@@ -11,12 +11,23 @@ use primitive_json::{Dest, Kind, Note, NoteParts, Request, RequestParts};
 use std::alloc::{AllocError as OutOfMemory, Global};
 use tree_model::{Home, Tree};
 
-fn request_of(alloc: Global, home: &Home, draft: DraftParts) -> Result<Request, OutOfMemory>
-    requires { IsUtf8 draft.target }
-    ensures { IfOk result (λ r. r ≡ spec.request_of home.now draft) }
+// Puts the item that a draft becomes behind others, for which there is room.
+fn add_item<T: Tree>(
+    alloc: Global,
+    tree: &T,
+    home: &Home,
+    draft: Draft,
+    items: &mut Vec<Note>,
+) -> Result<(), OutOfMemory>
+    requires { length items.old.items < vec_capacity items.old }
+    ensures item { OnOk result (items.new.items
+        ≡ items.old.items ++ spec.item_of home.now (T.nodes tree.now) draft ∷ []) }
+    ensures room { vec_capacity items.new ≡ vec_capacity items.old }
 {
+    let draft = draft.into_parts();
+    let dest = aim(alloc, tree, home, draft.target.entries())?;
     let fr = own_cse_id(alloc, home, 0)?;
-    Ok(Request::of(RequestParts {
+    let request = Request::of(RequestParts {
         op: Op::Notify,
         to: draft.target,
         fr: Some(fr),
@@ -28,20 +39,13 @@ fn request_of(alloc: Global, home: &Home, draft: DraftParts) -> Result<Request, 
         rcn: None,
         fc: None,
         drt: None,
-    }))
-}
-
-fn item_of<T: Tree>(alloc: Global, tree: &T, home: &Home, draft: Draft) -> Result<Note, OutOfMemory>
-    ensures { IfOk result (λ n. n ≡ spec.item_of home.now (T.nodes tree.now) draft) }
-{
-    let draft = draft.into_parts();
-    let dest = aim(alloc, tree, home, draft.target.entries())?;
-    let request = request_of(alloc, home, draft)?;
-    Ok(Note::of(NoteParts {
+    });
+    items.push_reserved(Note::of(NoteParts {
         kind: Kind::Notification,
         dest,
         request,
-    }))
+    }));
+    Ok(())
 }
 
 /// The items that drafts become, in their order, without their numbers. The tree is the one before
@@ -57,7 +61,7 @@ pub fn items_of<T: Tree>(
 {
     let mut items = Vec::with_capacity(alloc, drafts.len())?;
     for draft in drafts {
-        items.push(item_of(alloc, tree, home, draft)?)?;
+        add_item(alloc, tree, home, draft, &mut items)?;
     }
     Ok(items)
 }

@@ -23,7 +23,7 @@ fn object_of_one(alloc: Global, key: &'static str, value: Val) -> Result<Val, Ou
     ensures { IfOk result (λ v. v ≡ json.object (json.pairs_of ((key.now, value) ∷ []))) }
 {
     let mut members = Vec::with_capacity(alloc, 1)?;
-    members.push((MemberKey::named(key), value))?;
+    members.push_reserved((MemberKey::named(key), value));
     Ok(Val::of_obj(Members::of(members)))
 }
 
@@ -34,8 +34,8 @@ fn event_told(alloc: Global, kind: EventKind, shown: Val) -> Result<Val, OutOfMe
 {
     let mut members = Vec::with_capacity(alloc, 2)?;
     let number = Val::of_num(kind.number() as i64);
-    members.push((MemberKey::named("net"), number))?;
-    members.push((MemberKey::named("rep"), shown))?;
+    members.push_reserved((MemberKey::named("net"), number));
+    members.push_reserved((MemberKey::named("rep"), shown));
     Ok(Val::of_obj(Members::of(members)))
 }
 
@@ -47,8 +47,8 @@ fn framed_event(alloc: Global, event: Val, reference: Text) -> Result<Val, OutOf
         ((codes "nev", event) ∷ (codes "sur", json.text reference) ∷ [])) }
 {
     let mut members = Vec::with_capacity(alloc, 2)?;
-    members.push((MemberKey::named("nev"), event))?;
-    members.push((MemberKey::named("sur"), Val::of_text(reference)))?;
+    members.push_reserved((MemberKey::named("nev"), event));
+    members.push_reserved((MemberKey::named("sur"), Val::of_text(reference)));
     object_of_one(alloc, "m2m:sgn", Val::of_obj(Members::of(members)))
 }
 
@@ -59,8 +59,8 @@ fn framed_deletion(alloc: Global, reference: Text) -> Result<Val, OutOfMemory>
         ((codes "sud", json.boolean true) ∷ (codes "sur", json.text reference) ∷ [])) }
 {
     let mut members = Vec::with_capacity(alloc, 2)?;
-    members.push((MemberKey::named("sud"), Val::of_bool(true)))?;
-    members.push((MemberKey::named("sur"), Val::of_text(reference)))?;
+    members.push_reserved((MemberKey::named("sud"), Val::of_bool(true)));
+    members.push_reserved((MemberKey::named("sur"), Val::of_text(reference)));
     object_of_one(alloc, "m2m:sgn", Val::of_obj(Members::of(members)))
 }
 

@@ -12,6 +12,7 @@ use Rattle.tree_model.specs.Tree.{is_tree}
 use Rattle.tree_model.proofs.GrowthLemmas.{tree_from_well_formed}
 use Rattle.create_delete.specs.Changing.{nodes_joined}
 use Rattle.create_delete.proofs.RightCreateLemmas.{joins_sound}
+use Rattle.create_delete.proofs.UnheardLemmas.{unheard_joined}
 use Rattle.create_delete.proofs.creation.apply.Goals as goal
 
 pub prepare_creation-requires-clause-order : goal.prepare_creation-requires-clause-order
@@ -21,6 +22,15 @@ prepare_creation-requires-clause-order g c =
     let f = c.args.prepared.update in
     let may : MayJoin before r f = subst (λ (e : EntityData). MayJoin e r f) (sym c.entity.view_is) c.requires.may in
     joined_ascend before r f c.entity.invariant may
+
+-- where no subscription stands under the parent, nobody is told
+pub prepare_creation-requires-clause-unheard : goal.prepare_creation-requires-clause-unheard
+prepare_creation-requires-clause-unheard g c beside =
+    let before : EntityData = record { home = c.entity.inside.home; nodes = g.T.Tree.nodes c.entity.inside.tree; next = c.entity.inside.next; last = c.entity.inside.last; items = c.entity.inside.outbox.items; numbered = c.entity.inside.outbox.count } in
+    let r = c.args.prepared.resource in
+    let f = c.args.prepared.update in
+    let may : MayJoin before r f = subst (λ (e : EntityData). MayJoin e r f) (sym c.entity.view_is) c.requires.may in
+    unheard_joined before r f c.entity.invariant may beside
 
 pub prepare_creation-requires-clause-unsent : goal.prepare_creation-requires-clause-unsent
 prepare_creation-requires-clause-unsent g c =

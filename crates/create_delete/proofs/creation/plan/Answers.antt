@@ -1,6 +1,6 @@
 use Rattle.std.proofs.Common.{refl}
 use Rattle.request_rules.specs.Judged.{IsCreateOf}
-use Rattle.create_delete.proofs.PlannedLemmas.{create_allowed, create_prepared}
+use Rattle.create_delete.proofs.PlannedLemmas.{create_allowed, create_judged}
 use Rattle.create_delete.proofs.creation.plan.Goals as goal
 
 pub prepare-requires-clause-allowed : goal.prepare-requires-clause-allowed
@@ -24,8 +24,6 @@ prepare-requires-clause-parts g c =
     }
 
 pub returns : goal.returns
-returns g c = (
-  c.in_ok-create.ensures.0,
-  create_prepared c.args.entity.now c.args.originator.now c.args.request.now c.args.parent c.in_ok-create.create c.in_ok-create.ensures.0 c.in_ok-create.ensures.1
-      c.in_ok-prepare.field-0 c.in_ok-prepare.ensures.may c.in_ok-prepare.ensures.unsent c.in_ok-prepare.ensures.reply c.in_ok-prepare.ensures.after,
-)
+returns g c =
+    create_judged c.args.entity.now c.args.originator.now c.args.request.now c.args.parent c.in_ok-create.create c.in_ok-create.ensures.0 c.in_ok-create.ensures.1
+    c.prepare.result c.prepare.ensures.may c.prepare.ensures.unsent c.prepare.ensures.reply c.prepare.ensures.after c.prepare.ensures.memory

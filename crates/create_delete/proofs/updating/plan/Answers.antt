@@ -1,6 +1,6 @@
 use Rattle.std.proofs.Common.{refl}
 use Rattle.request_rules.specs.Judged.{IsUpdateOf}
-use Rattle.create_delete.proofs.PlannedLemmas.{update_allowed, update_prepared}
+use Rattle.create_delete.proofs.PlannedLemmas.{update_allowed, update_judged}
 use Rattle.create_delete.proofs.updating.plan.Goals as goal
 
 pub prepare-requires-clause-allowed : goal.prepare-requires-clause-allowed
@@ -18,8 +18,6 @@ prepare-requires-clause-parts g c =
     }
 
 pub returns : goal.returns
-returns g c = (
-  c.in_ok-update.ensures.0,
-  update_prepared c.args.entity.now c.args.originator.now c.args.request.now c.args.target c.in_ok-update.update c.in_ok-update.ensures.0 c.in_ok-update.ensures.1
-      c.in_ok-prepare.field-0 c.in_ok-prepare.ensures.may c.in_ok-prepare.ensures.same c.in_ok-prepare.ensures.named c.in_ok-prepare.ensures.gone c.in_ok-prepare.ensures.reply c.in_ok-prepare.ensures.after,
-)
+returns g c =
+    update_judged c.args.entity.now c.args.originator.now c.args.request.now c.args.target c.in_ok-update.update c.in_ok-update.ensures.0 c.in_ok-update.ensures.1
+    c.prepare.result c.prepare.ensures.may c.prepare.ensures.same c.prepare.ensures.named c.prepare.ensures.gone c.prepare.ensures.reply c.prepare.ensures.after c.prepare.ensures.memory

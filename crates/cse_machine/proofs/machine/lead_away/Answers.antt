@@ -1,4 +1,4 @@
-use Rattle.std.proofs.Common.{◌≡◌, IfOk, Ok, inl, inr, refl, sym, ap, ◌∙◌, subst}
+use Rattle.std.proofs.Common.{◌≡◌, IfOk, inl, inr, refl, sym, ap, ◌∙◌, subst}
 use Rattle.m2m_names.specs.declared.codes.Rsc.TheVariants.{NotFound, NotReachable}
 use Rattle.entity_model.specs.Entity.{EntityData}
 use Rattle.retarget.specs.Routes.{routed}

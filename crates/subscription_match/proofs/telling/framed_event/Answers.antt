@@ -5,7 +5,7 @@ use Rattle.subscription_match.proofs.telling.framed_event.Goals as goal
 
 pub of_obj-requires : goal.of_obj-requires
 of_obj-requires c =
-    two_texts c.in_ok-members.members.items c.push.new.self.items c.push-2.new.self.items c.of.result c.named.result c.named-2.result c.args.event c.of_text.result
-    c.in_ok-members.ensures.items c.in_ok-push.ensures.items c.in_ok-push-2.ensures.items c.of.ensures
+    two_texts c.in_ok-members.members.items c.push_reserved.new.self.items c.push_reserved-2.new.self.items c.of.result c.named.result c.named-2.result c.args.event c.of_text.result
+    c.in_ok-members.ensures.items c.push_reserved.ensures.items c.push_reserved-2.ensures.items c.of.ensures
     (subst IsUtf8 (sym c.named.ensures) (graphic_is_utf8 (codes "nev") refl))
     (subst IsUtf8 (sym c.named-2.ensures) (graphic_is_utf8 (codes "sur") refl))

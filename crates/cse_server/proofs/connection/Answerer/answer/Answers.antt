@@ -1,53 +1,46 @@
-use Rattle.std.proofs.Common.{Bool, Err, Some, refl, sym, ap, subst, ◌∙◌}
-use Rattle.std.specs.Io.KnownBytes.{Appends}
-use Rattle.m2m_io.specs.Told.{AppendsPrefix}
-use Rattle.http_binding.specs.Replying.{reply_text}
-use Rattle.cse_server.specs.Closing.{closes}
-use Rattle.cse_server.specs.Outside.{sink_told}
-use Rattle.cse_server.specs.declared.connection.Ended.TheVariants.{Closed}
-use Rattle.cse_server.proofs.TurnLemmas.{turned, starved_turn, unheard_turn, put_says, not_put}
+use Rattle.std.proofs.Common.{Ok, ap, refl}
+use Rattle.std.specs.Result.{result_ok}
+use Rattle.cse_server.proofs.RequestLemmas.{unbound}
+use Rattle.cse_server.proofs.TurnLemmas.{heard_none, heard_one, starved_turn, turned, unheard_turn}
 use Rattle.cse_server.proofs.connection.Answerer.answer.Goals as goal
 
-pub returns-in-Err-OutOfMemory-clause-answers : goal.returns-in-Err-OutOfMemory-clause-answers
-returns-in-Err-OutOfMemory-clause-answers g c =
+-- a frame that binds to a request is asked, and its reply is said
+pub id_of-id-requires : goal.id_of-id-requires
+id_of-id-requires g c = ap result_ok c.in-Ok.ensures
+
+pub returns-in-Ok-clause-answers : goal.returns-in-Ok-clause-answers
+returns-in-Ok-clause-answers g c =
+    let rule = g.W.Replier.rule c.args.self.now.replier.now in
+    let frame = c.args.heard.now.frame in
+    let reply = c.in-Ok-reply.reply in
+    turned rule g.D.Desk.grown c.args.heard.now.place c.args.seat.now c.reply.new.seat _ _ frame reply c.say_reply.result
+    (heard_one rule g.D.Desk.grown c.args.seat.now c.reply.new.seat _ _ _ _ frame c.in-Ok.request (ap result_ok c.in-Ok.ensures) (Ok reply) c.in-Ok-reply.ensures.answers)
+    c.say_reply.ensures.says c.say_reply.ensures.sound
+
+-- where memory ran out in that, there is none
+pub returns-in_default-clause-answers : goal.returns-in_default-clause-answers
+returns-in_default-clause-answers g c =
+    let rule = g.W.Replier.rule c.args.self.now.replier.now in
+    let frame = c.args.heard.now.frame in
+    starved_turn rule g.D.Desk.grown c.args.heard.now.place c.args.seat.now c.reply.new.seat _ _ frame c.reply.result
+    (heard_one rule g.D.Desk.grown c.args.seat.now c.reply.new.seat _ _ _ _ frame c.in-Ok.request (ap result_ok c.in-Ok.ensures) c.reply.result c.reply.ensures.answers)
+    refl
+
+pub returns-in-OutOfMemory-clause-answers : goal.returns-in-OutOfMemory-clause-answers
+returns-in-OutOfMemory-clause-answers g c =
     unheard_turn (g.W.Replier.rule c.args.self.now.replier.now) g.D.Desk.grown g.met.D.Desk.grown_by_nothing c.args.heard.now.place c.args.seat.now _ c.args.heard.now.frame
 
-pub returns-in_default-reply_for-clause-answers : goal.returns-in_default-reply_for-clause-answers
-returns-in_default-reply_for-clause-answers g c =
-    starved_turn (g.W.Replier.rule c.args.self.now.replier.now) g.D.Desk.grown c.args.heard.now.place c.args.seat.now c.reply_for.new.seat _ _ c.args.heard.now.frame
-    c.reply_for.result c.reply_for.ensures.hears refl
-
-pub returns-in-Ok-put_told-clause-answers : goal.returns-in-Ok-put_told-clause-answers
-returns-in-Ok-put_told-clause-answers g c =
-    turned (g.W.Replier.rule c.args.self.now.replier.now) g.D.Desk.grown c.args.heard.now.place c.args.seat.now c.reply_for.new.seat _ _
-    c.args.heard.now.frame c.in-Ok.reply (Some Closed) c.in-Ok.ensures.hears (
-      sym c.closes-close.ensures ∙ c.if-close.true,
-      record {
-        written = subst (λ (b : Bool). Appends (g.X.Sink.written c.args.conn.now) (g.X.Sink.written c.put_told.new.conn) (reply_text c.in-Ok.reply b)) c.closes-close.ensures c.in-Ok-put_told.ensures.ok;
-        puts = c.in-Ok-put_told.ensures.puts (λ e. cc);
-      },
-    ) (λ put. c.in-Ok-put_told.ensures.sound)
-
-pub returns-in-Ok-2-clause-answers : goal.returns-in-Ok-2-clause-answers
-returns-in-Ok-2-clause-answers g c =
-    turned (g.W.Replier.rule c.args.self.now.replier.now) g.D.Desk.grown c.args.heard.now.place c.args.seat.now c.reply_for.new.seat _ _
-    c.args.heard.now.frame c.in-Ok.reply _ c.in-Ok.ensures.hears (
-      sym c.closes-close.ensures ∙ c.if-close.false,
-      record {
-        written = subst (λ (b : Bool). Appends (g.X.Sink.written c.args.conn.now) (g.X.Sink.written c.put_told.new.conn) (reply_text c.in-Ok.reply b)) c.closes-close.ensures c.in-Ok-2.ensures.ok;
-        puts = c.in-Ok-2.ensures.puts (λ e. cc);
-      },
-    ) (λ put. c.in-Ok-2.ensures.sound)
+-- a frame that binds to none is refused
+pub returns-in-Ok-refusal_of-clause-answers : goal.returns-in-Ok-refusal_of-clause-answers
+returns-in-Ok-refusal_of-clause-answers g c =
+    let rule = g.W.Replier.rule c.args.self.now.replier.now in
+    let frame = c.args.heard.now.frame in
+    let reply = c.in-Ok-refusal_of.reply in
+    let none = unbound frame c.in-Err.fault c.in_default-fault.not-OutOfMemory c.in-Err.ensures in
+    turned rule g.D.Desk.grown {E = ⊥} c.args.heard.now.place c.args.seat.now c.args.seat.now _ _ frame reply c.say_reply-in-Ok-refusal_of.result
+    (heard_none rule g.D.Desk.grown g.met.D.Desk.grown_by_nothing c.args.seat.now _ _ frame none (Ok reply) c.in-Ok-refusal_of.ensures)
+    c.say_reply-in-Ok-refusal_of.ensures.says c.say_reply-in-Ok-refusal_of.ensures.sound
 
 pub returns-clause-answers : goal.returns-clause-answers
 returns-clause-answers g c =
-    rw c.from.ensures
-    (turned (g.W.Replier.rule c.args.self.now.replier.now) g.D.Desk.grown c.args.heard.now.place c.args.seat.now c.reply_for.new.seat _ _ c.args.heard.now.frame c.in-Ok.reply _ c.in-Ok.ensures.hears
-    (put_says c.args.heard.now.place c.args.heard.now.frame (reply_text c.in-Ok.reply (closes c.args.heard.now.place c.args.heard.now.frame))
-    (sink_told (g.X.Sink.written c.args.conn.now) (g.X.Sink.puts c.args.conn.now)) (sink_told (g.X.Sink.written c.put_told.new.conn) (g.X.Sink.puts c.put_told.new.conn)) c.in-Err.fault
-    (λ e. record {
-      written = subst (λ (b : Bool). AppendsPrefix (g.X.Sink.written c.args.conn.now) (g.X.Sink.written c.put_told.new.conn) (reply_text c.in-Ok.reply b)) c.closes-close.ensures (c.in-Err.ensures.fault (ap Err e));
-      puts = c.in-Err.ensures.puts (λ m. cc (e, m));
-    })
-    (λ e. rw (c.in-Err.ensures.memory (ap Err e)) refl))
-    (λ put. absurd (not_put c.in-Err.fault put)))
+    unheard_turn (g.W.Replier.rule c.args.self.now.replier.now) g.D.Desk.grown g.met.D.Desk.grown_by_nothing c.args.heard.now.place c.args.seat.now _ c.args.heard.now.frame

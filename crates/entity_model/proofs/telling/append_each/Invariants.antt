@@ -3,7 +3,7 @@ use Rattle.std.specs.List.{AllByRecursion}
 use Rattle.std.specs.Vec.Iter.{into_iter_items}
 use Rattle.notify_outbox.specs.declared.item.Item.{Item}
 use Rattle.entity_model.specs.Entity.{items_from, numbered_after}
-use Rattle.entity_model.proofs.telling.append_all.Given as goal
+use Rattle.entity_model.proofs.telling.append_each.Given as goal
 
 -- the items so far, and those of the notes that are left, are all; and there is room for these
 abbrev pub invariant-loop-note : goal.invariant-loop-note
