@@ -1,6 +1,6 @@
 -- What is known of bits, once more is known, and that a policy that an id names stands in the list.
 use Rattle.std.specs.Prelude.{nat_eq}
-use Rattle.std.proofs.Common.{◌≡◌, ℕ, List, [], ◌∷◌, ◌++◌, cond, Option, Some, None, option_map, true, inl, inr, refl, sym, ap, ◌∙◌}
+use Rattle.std.proofs.Common.{◌≡◌, ℕ, List, [], ◌∷◌, ◌++◌, cond, Option, Some, None, option_map, true, inl, inr, refl, sym, ap, subst, ◌∙◌}
 use Rattle.std.proofs.lemmas.Bool.{cases_Bool, eqb-true}
 use Rattle.std.proofs.lemmas.Option.{same_Some}
 use Rattle.std.specs.BTreeMap.{BTreeMap, get, is_at}
@@ -9,21 +9,24 @@ use Rattle.std.specs.Ordering.{nat_cmp}
 use Rattle.std.specs.Int.RustNames.{bit_or}
 use Rattle.std.specs.Option.{option_and_then, option_map_or}
 use Rattle.m2m_names.specs.declared.types.Ty.{Ty}
-use Rattle.m2m_names.specs.declared.attributes.Attr.TheVariants.{Pv}
+use Rattle.m2m_names.specs.declared.attributes.Attr.TheVariants.{Acpi, Pv}
 use Rattle.m2m_names.specs.declared.types.Ty.TheVariants.{AccessControlPolicy}
 use Rattle.m2m_names.specs.Ids.{id_parts}
 use Rattle.m2m_names.specs.Types.{ty_row}
 use Rattle.m2m_value.specs.Data.{Data}
 use Rattle.m2m_value.specs.View.{as_text}
+use Rattle.resource_model.specs.Attributes.{value_of}
 use Rattle.resource_model.specs.Home.{HomeData}
 use Rattle.resource_model.specs.Resource.{ResourceData, is_ty}
 use Rattle.tree_model.specs.Tree.{at, of_type, resource_of_id, typed_at}
 use Rattle.tree_model.proofs.NumberLemmas.{equal_is}
 use Rattle.tree_model.proofs.TreeLemmas.{at_number}
+use Rattle.known_rights.specs.Known.{IsRead}
+use Rattle.known_rights.specs.declared.known.ReadList.{ReadList}
 use Rattle.known_rights.specs.Tables.{AreBits, AreLent, NotesOrStays, lent_rules, rules_by_id}
 use Rattle.known_rights.proofs.BesidesLemmas.{rules_besides}
 use Rattle.policy_eval.specs.Rights.{bits_by, with_rule, with_rules}
-use Rattle.policy_eval.specs.Rules.{Rule, policy_at, policy_named, policy_number, policy_of, rules_by}
+use Rattle.policy_eval.specs.Rules.{Rule, ids_at, listed_in, policy_at, policy_named, policy_number, policy_of, rules_by}
 
 -- a key that a number finds is that number
 at_number_is : (m n : ℕ) → is_at (nat_cmp m) n ≡ true → m ≡ n
@@ -180,3 +183,20 @@ one_id_more home o nodes bits id ids = by (policy_of nodes id) refl
     by : (found : Option ResourceData) → policy_of nodes id ≡ found → with_rules home o (with_rules home o bits (option_map_or lent_rules found [])) (rules_by Pv nodes ids) ≡ with_rules home o bits (rules_by Pv nodes (id ∷ ids))
     by None is = rw is refl
     by (Some p) is = rw is (sym (with_rules-append home o bits (lent_rules p) (rules_by Pv nodes ids)))
+
+-- ---- the list that was read last
+
+-- who has that list has the bits that it gave
+pub read_again : (home : HomeData) (nodes : List ResourceData) (o : List ℕ) (last : Option ReadList) (read : ReadList) (r : ResourceData) (list acpi : Data) → IsRead home nodes o last → last ≡ Some read → at read.number nodes ≡ Some r → value_of Acpi r.attrs ≡ Some list → list ≡ acpi → read.bits ≡ bits_by home o (rules_by Pv nodes (listed_in (Some acpi)))
+read_again home nodes o last read r list acpi known is there value one =
+    let known_now : IsRead home nodes o (Some read) = subst (IsRead home nodes o) is known in
+    known_now r there
+    ∙ ap (λ (v : Option Data). bits_by home o (rules_by Pv nodes (listed_in v))) (value ∙ ap Some one)
+
+-- what was read of one is what its list gives
+pub list_read : (home : HomeData) (nodes : List ResourceData) (o : List ℕ) (r : ResourceData) (acpi : Data) (read : ReadList) → at r.number nodes ≡ Some r → value_of Acpi r.attrs ≡ Some acpi → read.number ≡ r.number → read.bits ≡ bits_by home o (rules_by Pv nodes (listed_in (Some acpi))) → IsRead home nodes o (Some read)
+list_read home nodes o r acpi read there value is gives s stands =
+    let one : r ≡ s = same_Some r s (sym there ∙ ap (λ (n : ℕ). at n nodes) (sym is) ∙ stands) in
+    gives
+    ∙ ap (λ (v : Option Data). bits_by home o (rules_by Pv nodes (listed_in v))) (sym value)
+    ∙ ap (λ (q : ResourceData). bits_by home o (rules_by Pv nodes (ids_at Acpi q))) one

@@ -1,10 +1,11 @@
 //! The rights of an asker on many resources.
-ghost use Rattle.std.specs.Prelude.{◌≡◌, IsTrue, Some, option_and_then};
+ghost use Rattle.std.specs.Prelude.{◌≡◌, IfSome, IsTrue, Some, option_and_then};
 ghost use Rattle.std.specs.BTreeMap.{get};
 ghost use Rattle.std.specs.Ordering.{nat_cmp};
-ghost use Rattle.m2m_names.specs.declared.attributes.Attr.TheVariants.{Pv};
+ghost use Rattle.m2m_names.specs.declared.attributes.Attr.TheVariants.{Acpi, Pv};
 ghost use Rattle.m2m_names.specs.Name.{is_originator};
 ghost use Rattle.m2m_value.specs.View.{as_text};
+ghost use Rattle.resource_model.specs.Attributes.{value_of};
 ghost use Rattle.tree_model.specs.Tree.{at};
 ghost use Rattle.policy_eval.specs.Rights as spec;
 ghost use Rattle.policy_eval.specs.Rules as spec_rules;
@@ -12,7 +13,7 @@ ghost use Rattle.known_rights.specs.Known.{IsKnown};
 ghost use Rattle.known_rights.specs.Tables.{lent_rules, rules_by_id, NotesOrStays};
 
 use crate::asker::Asker;
-use crate::known::{Known, bits_at, note_bits};
+use crate::known::{Known, ReadList, bits_at, note_bits};
 use crate::rules::{bits_by_rules, policy_number};
 use m2m_names::{ALL_BITS, Attr, Ty};
 use m2m_value::Val;
@@ -33,6 +34,7 @@ fn with_policy(asker: &Asker, bits: u32, policy: &Resource, known: &mut Known) -
     ensures policies { NotesOrStays known.old.policies known.new.policies policy.now.number
         (spec.bits_by asker.now.home asker.now.originator (lent_rules policy.now)) }
     ensures linked { known.new.linked ≡ known.old.linked }
+    ensures last { known.new.last ≡ known.old.last }
 {
     let own = read_bits(asker, policy);
     note_bits(&mut known.policies, policy.number(), own);
@@ -90,18 +92,83 @@ fn bits_of_owner(asker: &Asker, resource: &Resource) -> u32
     }
 }
 
-// By `pv` of the policies that `acpi` names, or the owner's where it is absent or empty.
-fn linked_bits<T: Tree>(tree: &T, asker: &Asker, resource: &Resource, known: &mut Known) -> u32
+// So many ids in a list, or more, are worth a look whether they are those of the last list.
+const MANY: usize = 8;
+
+// The bits by the list that was read last, where this one is the same.
+fn known_by_last<T: Tree>(tree: &T, asker: &Asker, acpi: &Val, known: &Known) -> Option<u32>
+    requires known { IsKnown asker.now.home (T.nodes tree.now) asker.now.originator known.now }
+    ensures { IfSome result (λ bits. bits ≡ spec.bits_by asker.now.home asker.now.originator
+        (spec_rules.rules_by Pv (T.nodes tree.now) (spec_rules.listed_in (Some acpi.now)))) }
+{
+    let read = known.last?;
+    let last = tree.get(read.number)?.attrs().get(Attr::Acpi)?;
+    if last == acpi { Some(read.bits) } else { None }
+}
+
+// The bits that the policies which a long list names give by `pv`: the same list is read once, as
+// long as no other comes between.
+fn bits_by_list<T: Tree>(
+    tree: &T,
+    asker: &Asker,
+    resource: &Resource,
+    acpi: &Val,
+    known: &mut Known,
+) -> u32
+    requires resource { at resource.now.number (T.nodes tree.now) ≡ Some resource.now }
+    requires acpi { value_of Acpi resource.now.attrs ≡ Some acpi.now }
+    requires known { IsKnown asker.now.home (T.nodes tree.now) asker.now.originator known.old }
+    ensures bits { result ≡ spec.bits_by asker.now.home asker.now.originator
+        (spec_rules.rules_by Pv (T.nodes tree.now) (spec_rules.listed_in (Some acpi.now))) }
+    ensures known { IsKnown asker.now.home (T.nodes tree.now) asker.now.originator known.new }
+{
+    if let Some(bits) = known_by_last(tree, asker, acpi, known) {
+        return bits;
+    }
+    let bits = bits_by_ids(tree, asker, listed_in(Some(acpi)), known);
+    known.last = Some(ReadList {
+        number: resource.number(),
+        bits,
+    });
+    bits
+}
+
+// By `pv` of the policies that this `acpi` names, or the owner's where it is empty.
+fn bits_by_acpi<T: Tree>(
+    tree: &T,
+    asker: &Asker,
+    resource: &Resource,
+    acpi: &Val,
+    known: &mut Known,
+) -> u32
+    requires resource { at resource.now.number (T.nodes tree.now) ≡ Some resource.now }
+    requires acpi { value_of Acpi resource.now.attrs ≡ Some acpi.now }
     requires known { IsKnown asker.now.home (T.nodes tree.now) asker.now.originator known.old }
     ensures bits { result ≡ spec.bits_by asker.now.home asker.now.originator
         (spec_rules.linked_rules Pv (T.nodes tree.now) resource.now) }
     ensures known { IsKnown asker.now.home (T.nodes tree.now) asker.now.originator known.new }
 {
-    let ids = listed_in(resource.attrs().get(Attr::Acpi));
+    let ids = listed_in(Some(acpi));
     if ids.is_empty() {
-        bits_of_owner(asker, resource)
-    } else {
-        bits_by_ids(tree, asker, ids, known)
+        return bits_of_owner(asker, resource);
+    }
+    if ids.len() < MANY {
+        return bits_by_ids(tree, asker, ids, known);
+    }
+    bits_by_list(tree, asker, resource, acpi, known)
+}
+
+// By `pv` of the policies that `acpi` names, or the owner's where it is absent or empty.
+fn linked_bits<T: Tree>(tree: &T, asker: &Asker, resource: &Resource, known: &mut Known) -> u32
+    requires resource { at resource.now.number (T.nodes tree.now) ≡ Some resource.now }
+    requires known { IsKnown asker.now.home (T.nodes tree.now) asker.now.originator known.old }
+    ensures bits { result ≡ spec.bits_by asker.now.home asker.now.originator
+        (spec_rules.linked_rules Pv (T.nodes tree.now) resource.now) }
+    ensures known { IsKnown asker.now.home (T.nodes tree.now) asker.now.originator known.new }
+{
+    match resource.attrs().get(Attr::Acpi) {
+        Some(acpi) => bits_by_acpi(tree, asker, resource, acpi, known),
+        None => bits_of_owner(asker, resource),
     }
 }
 

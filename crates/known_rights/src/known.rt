@@ -16,6 +16,16 @@ pub struct Known {
     pub(crate) policies: BTreeMap<u64, u32>,
     // By the policies that a container names, or as its owner.
     pub(crate) linked: BTreeMap<u64, u32>,
+    // By the long list of policies that was read last.
+    pub(crate) last: Option<ReadList>,
+}
+
+/// A list of policies that was read: the number of a resource that has it, and the bits that these
+/// policies give.
+#[derive(Clone, Copy, Drop)]
+pub(crate) struct ReadList {
+    pub(crate) number: u64,
+    pub(crate) bits: u32,
 }
 
 impl Known {
@@ -32,6 +42,7 @@ impl Known {
         Known {
             policies: BTreeMap::new(alloc),
             linked: BTreeMap::new(alloc),
+            last: None,
         }
     }
 }

@@ -4,9 +4,10 @@
 //! `granted_besides` answers what `granted_on` of policy_eval answers. Who asks is an `Asker`,
 //! whose full form is built once. `Known` keeps what each policy gives the asker, and what each
 //! container gives it on its instances, so that a policy that many resources name costs a look-up
-//! for each of them. What is kept holds for one asker and for one tree as it stands; callers owe
-//! that (`IsKnown` of `specs/Known`), and that the tree has the resource. Where there is no room to
-//! keep something, it is read again.
+//! for each of them. It also keeps what the long list of policies gave that was read last: where
+//! the next resource has the same list, no id of it is looked up. What is kept holds for one asker
+//! and for one tree as it stands; callers owe that (`IsKnown` of `specs/Known`), and that the tree
+//! has the resource. Where there is no room to keep something, it is read again.
 //!
 //! ```text
 //! let asker = Asker::of(alloc, home, b"CDev")?;

@@ -17,4 +17,5 @@ returns-clause-known g c =
     record {
       policies = c.linked_bits-bits.ensures.known.policies;
       linked = bits_noted (linked_rules Pv nodes) c.args.asker.now.home nodes c.args.asker.now.originator c.linked_bits-bits.new.known.linked c.note_bits.new.table c.args.container.now c.number-2.result c.linked_bits-bits.result c.linked_bits-bits.ensures.known.linked c.requires.container c.number-2.ensures.value c.linked_bits-bits.ensures.bits c.note_bits.ensures;
+      last = c.linked_bits-bits.ensures.known.last;
     }

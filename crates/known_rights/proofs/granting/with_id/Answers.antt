@@ -1,10 +1,11 @@
-use Rattle.std.proofs.Common.{[], List, Option, ap, sym, ◌∙◌, subst}
+use Rattle.std.proofs.Common.{[], Option, ap, sym, ◌∙◌, subst}
 use Rattle.std.specs.Option.{option_map_or}
 use Rattle.resource_model.specs.Resource.{ResourceData}
 use Rattle.policy_eval.specs.Rights.{with_rules}
 use Rattle.policy_eval.specs.Rules.{linked_rules}
 use Rattle.m2m_names.specs.declared.attributes.Attr.TheVariants.{Pv}
 use Rattle.known_rights.specs.Tables.{lent_rules, AreBits}
+use Rattle.known_rights.specs.Known.{IsRead}
 use Rattle.known_rights.proofs.KnownLemmas.{known_gives, lent_noted}
 use Rattle.known_rights.proofs.granting.with_id.Goals as goal
 
@@ -21,4 +22,5 @@ pub returns-in-Some-policy_named-clause-known : goal.returns-in-Some-policy_name
 returns-in-Some-policy_named-clause-known g c = record {
   policies = lent_noted c.args.asker.now.home (g.T.Tree.nodes c.args.tree.now) c.args.asker.now.originator c.args.known.now.policies c.with_policy.new.known.policies c.args.id.now c.in-Some-policy_named.policy.now c.requires.known.policies (sym c.in-Some-policy_named.ensures) c.with_policy.ensures.policies;
   linked = subst (AreBits (linked_rules Pv (g.T.Tree.nodes c.args.tree.now)) c.args.asker.now.home (g.T.Tree.nodes c.args.tree.now) c.args.asker.now.originator) (sym c.with_policy.ensures.linked) c.requires.known.linked;
+  last = subst (IsRead c.args.asker.now.home (g.T.Tree.nodes c.args.tree.now) c.args.asker.now.originator) (sym c.with_policy.ensures.last) c.requires.known.last;
 }
