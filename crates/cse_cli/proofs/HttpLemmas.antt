@@ -6,8 +6,11 @@ use Rattle.cse_server.specs.Outside.{EndsByFault, LinkTold, Outside, SinkTold, o
 use Rattle.turn_desk.specs.Entries.{Marked}
 use Rattle.cse_machine.specs.declared.event.Event.{Event}
 use Rattle.cse_machine.specs.declared.event.Outcome.{Outcome}
-use Rattle.desk_replies.specs.Rule.{plainly}
+use Rattle.desk_replies.specs.Rule.{ReplyRule}
 use Rattle.cse_server.specs.Connection.{Serves}
+use Rattle.resource_model.specs.Home.{HomeData}
+use Rattle.entity_model.specs.Entity.{EntityData}
+use Rattle.cse_cli.specs.Run.{ServesOpened}
 use Rattle.cse_server.specs.declared.connection.Ended.{Ended}
 use Rattle.cse_server.specs.declared.connection.Ended.TheVariants.{ReadFault as EndedReading, WriteFault as EndedWriting}
 
@@ -62,11 +65,17 @@ writes_of ended before now is h = record {
 
 -- ---- the same connection, by other names
 
-pub serves_same : {S : Type 0} (grown : S → List (Marked Event Outcome) → S → Type 0) (seat before after : S)
+pub serves_same : {S : Type 0} (rule : ReplyRule) (grown : S → List (Marked Event Outcome) → S → Type 0) (seat before after : S)
     (left0 left1 : Option (List ℕ)) (old0 old1 : SinkTold) (given : Option (List ℕ)) (link : LinkTold) (new : Outside) (ended : Ended)
     → seat ≡ before → left0 ≡ left1 → old0 ≡ old1
-    → Serves plainly grown seat after (outside left0 old0 given link) new ended → Serves plainly grown before after (outside left1 old1 given link) new ended
-serves_same {S = S} grown seat before after left0 left1 old0 old1 given link new ended b l o h =
-    subst (λ (s : S). Serves plainly grown s after (outside left1 old1 given link) new ended) b
-    (subst (λ (v : Option (List ℕ)). Serves plainly grown seat after (outside v old1 given link) new ended) l
-    (subst (λ (v : SinkTold). Serves plainly grown seat after (outside left0 v given link) new ended) o h))
+    → Serves rule grown seat after (outside left0 old0 given link) new ended → Serves rule grown before after (outside left1 old1 given link) new ended
+serves_same {S = S} rule grown seat before after left0 left1 old0 old1 given link new ended b l o h =
+    subst (λ (s : S). Serves rule grown s after (outside left1 old1 given link) new ended) b
+    (subst (λ (v : Option (List ℕ)). Serves rule grown seat after (outside v old1 given link) new ended) l
+    (subst (λ (v : SinkTold). Serves rule grown seat after (outside left0 v given link) new ended) o h))
+
+-- the entity that was served is this one
+pub streams_served : {home : HomeData} {served opened : EntityData} {old new : Outside} {status : Status}
+    → served ≡ opened → ServesOpened home served old new status → ServesOpened home opened old new status
+streams_served {home = home} {old = old} {new = new} {status = status} is run =
+    subst (λ (e : EntityData). ServesOpened home e old new status) is run

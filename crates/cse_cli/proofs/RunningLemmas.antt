@@ -19,7 +19,7 @@ use Rattle.cse_cli.specs.Running.{RunsCommand, RunsTask}
 pub no_fault : {fault status : Status} {count : ℕ} → status ≢ fault → EndsByFault fault status count count
 no_fault other = record { count = omega arith; cause = λ e. absurd (other e); steady = λ _. refl }
 
-module _ {S O C L D : Type 0} (served : Serving → EntityData → Bench C L → Bench C L → Type 0) where
+module _ {S O C L D : Type 0} (served : HomeData → Serving → EntityData → Bench C L → Bench C L → Type 0) where
   -- memory ran out before a task was done
   starved_task : (task : Task) (home : HomeData) (devices : Devices S O C L D) → RunsTask served task home devices devices Memory
   starved_task http home devices = record {

@@ -77,15 +77,16 @@ module _ {C L : Type 0} {served : EntityData → Bench C L → Bench C L → Typ
     serves = inr (inl (refl, fails, refl));
   }
 
-  -- it gave one, the door was opened and served, and what was left was sent
-  pub opens_open : {serving : Serving} {before after : C} {carrier : L} {left : Bench C L} {start between now : DoorTold} {status : Status} (reading : ℕ)
+  -- it gave one, the door was opened and served by the entity of this home, and what was left was sent
+  pub opens_open : {serving : Serving} {before after : C} {carrier : L} {left : Bench C L} {start between now : DoorTold} {status : Status}
+      {entity : EntityData} (reading : ℕ) → entity ≡ opening home reading
       → Tells (λ given. given ++ reading ∷ []) (clock before) (clock after)
       → Tells (λ _. Some serving.listen) start.opened between.opened → TellsStill start.given between.given
       → TellsStill start.ended between.ended → between.faults ≡ start.faults
-      → ServesOpen (served (opening home reading) (record { clock = after; link = carrier }) left)
+      → ServesOpen (served entity (record { clock = after; link = carrier }) left)
       (left ≡ record { clock = after; link = carrier }) serving.accept between now status
       → OpensServer served serving home clock (record { clock = before; link = carrier }) left start now status
-  opens_open {after = after} {carrier = carrier} {between = between} reading given opened gave ended steady serves = record {
+  opens_open {serving = serving} {after = after} {carrier = carrier} {left = left} {between = between} {now = now} {status = status} reading is given opened gave ended steady serves = record {
     reading = reading;
     between = record { clock = after; link = carrier };
     given = given;
@@ -93,6 +94,7 @@ module _ {C L : Type 0} {served : EntityData → Bench C L → Bench C L → Typ
     serves = inr (inr (record {
       between = between;
       opens = record { opened = opened; given = gave; ended = ended; steady = steady };
-      serves = serves;
+      serves = subst (λ (e : EntityData). ServesOpen (served e (record { clock = after; link = carrier }) left)
+          (left ≡ record { clock = after; link = carrier }) serving.accept between now status) is serves;
     }));
   }

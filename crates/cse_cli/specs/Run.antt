@@ -13,7 +13,7 @@ use Rattle.resource_model.specs.Home.{HomeData}
 use Rattle.entity_model.specs.Entity.{EntityData}
 use Rattle.entity_model.specs.Opening.{opening}
 use Rattle.cse_machine.specs.Step.{Step}
-use Rattle.desk_replies.specs.Rule.{plainly}
+use Rattle.remote_members.specs.Wide.{wide}
 use Rattle.cse_server.specs.Connection.{Serves}
 use Rattle.cse_server.specs.Sending.{SendsItems}
 use Rattle.primitive_replay.specs.Script.{Replays}
@@ -55,17 +55,17 @@ EndsBehind EndedReading before after old new status = EndsAt ReadFault before af
 EndsBehind EndedWriting before after old new status = EndsAt WriteFault before after old new status
 EndsBehind EndedStarved before after old new status = EndsAt Memory before after old new status
 
--- Input and output were served as one connection of an entity with this home, which opened at this
--- reading, and then what it left in the outbox was sent, what the objects outside told being first
--- `old` and now `new`. The requests were taken by the machine, one after another, and by nobody
--- else.
-pub record ServesOpened (home : HomeData) (reading : ℕ) (old new : Outside) (status : Status)
-    : Type 0 where
+-- Input and output were served as one connection of an entity that opened as this one, for the CSE
+-- of this home, and then what it left in the outbox was sent, what the objects outside told being
+-- first `old` and now `new`. The requests, and behind each those to members at other CSEs, were
+-- taken by the machine, one after another, and by nobody else.
+pub record ServesOpened (home : HomeData) (opened : EntityData) (old new : Outside)
+    (status : Status) : Type 0 where
   pub between : EntityData
   pub after : EntityData
   pub served : Outside
   pub ended : Ended
-  pub serves : Serves plainly (IsOwnRun Step) (opening home reading) between old served ended
+  pub serves : Serves (wide home) (IsOwnRun Step) opened between old served ended
   pub behind : EndsBehind ended between after served new status
 
 -- Memory ran out before the entity opened: nothing was read, written or exchanged.
@@ -79,7 +79,7 @@ pub record ServesStreams (home : HomeData) (old new : Outside) (status : Status)
   pub reading : ℕ
   pub given : Option (List ℕ)
   pub clock : Tells (λ readings. readings ++ reading ∷ []) old.readings given
-  pub run : ServesOpened home reading (record old { readings = given }) new status
+  pub run : ServesOpened home (opening home reading) (record old { readings = given }) new status
       ⊎ RanOut (record old { readings = given }) new status
 
 -- The command `http` at this home: input and output are served as one connection, and the items

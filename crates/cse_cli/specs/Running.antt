@@ -42,27 +42,29 @@ module _ {S O C L D : Type 0} where
 
   -- A task was done at this home. With `http` an entity opens at the first reading of the clock,
   -- and the output gets exactly the replies that the machine gives the requests of the input, one
-  -- after another, as far as the status says. With `replay` it opens at the reading 0, and the
-  -- output gets exactly the script of the lines of the input. With `twin` two entities open at the
+  -- after another, as far as the status says; in the reply to a fan-out stands of each member at
+  -- another CSE what a request of its own gives, which the machine takes behind it. With `replay`
+  -- the entity opens at the reading 0, and the output gets exactly the script of the lines of the
+  -- input, in which no member at another CSE is asked. With `twin` two entities open at the
   -- reading 0, and the output gets exactly whether an originator has the same sight of both, and
   -- what comes of its requests in both. With `serve` an entity opens at the first reading of the
   -- clock, the door is opened where the words say, and its connections are `served` by that entity
   -- until it gives no more. With `gen` the output gets exactly the line on the made requests, which
   -- an entity with the default home takes that opens at the reading 0.
-  abbrev pub RunsTask : (Serving → EntityData → Bench C L → Bench C L → Type 0) → Task → HomeData
-      → Devices S O C L D → Devices S O C L D → Status → Type 0
+  abbrev pub RunsTask : (HomeData → Serving → EntityData → Bench C L → Bench C L → Type 0) → Task
+      → HomeData → Devices S O C L D → Devices S O C L D → Status → Type 0
   RunsTask served http home old new status = RunsStreams (RunsHttp home) old new status
   RunsTask served replay home old new status = RunsStreams (RunsReplay home) old new status
   RunsTask served twin home old new status = RunsStreams (RunsTwin home) old new status
   RunsTask served (serve serving) home old new status =
-      RunsServer (served serving) serving home old new status
+      RunsServer (served home serving) serving home old new status
   RunsTask served (generate requests) home old new status =
       RunsStreams (RunsGen requests) old new status
 
   -- What words ask for was done with these devices, and ended with this status. None is asked for
   -- by words that are no command.
-  abbrev pub RunsCommand : (Serving → EntityData → Bench C L → Bench C L → Type 0) → Option Command
-      → Devices S O C L D → Devices S O C L D → Status → Type 0
+  abbrev pub RunsCommand : (HomeData → Serving → EntityData → Bench C L → Bench C L → Type 0)
+      → Option Command → Devices S O C L D → Devices S O C L D → Status → Type 0
   RunsCommand served None old new status = RefusesWords old new status
   RunsCommand served (Some command) old new status =
       RunsTask served command.task command.home old new status

@@ -5,6 +5,7 @@ use Rattle.m2m_io.specs.Told.{Tells, TellsStill}
 use Rattle.m2m_io.specs.declared.status.Status.{Status}
 use Rattle.m2m_io.specs.declared.status.Status.TheVariants.{Done, ReadFault, Memory}
 use Rattle.turn_desk.specs.declared.shared.DeskSeat.{DeskSeat}
+use Rattle.turn_desk.specs.Entries.{Marked}
 use Rattle.turn_desk.specs.Seats.{known_to}
 use Rattle.turn_desk.specs.Shared.{Leaves, OwnsAll, newcomer}
 use Rattle.resource_model.specs.Home.{HomeData}
@@ -14,7 +15,11 @@ use Rattle.entity_model.specs.Opening.{opening}
 use Rattle.cse_machine.specs.Step.{Step}
 use Rattle.cse_machine.specs.declared.event.Event.{Event}
 use Rattle.cse_machine.specs.declared.event.Outcome.{Outcome}
+use Rattle.cse_server.specs.Attending.{AttendsBy, ConnTold, TalksHttp}
+use Rattle.cse_server.specs.Outside.{LinkTold}
 use Rattle.cse_server.specs.declared.bench.Bench.{Bench}
+use Rattle.cse_server.specs.declared.binding.Attended.{Attended}
+use Rattle.remote_members.specs.Wide.{wide}
 use Rattle.workers.specs.declared.gate.Ending.TheVariants.{Fault}
 use Rattle.workers.specs.Gate.{DoorTold, TakesConnections, ServesDoor}
 use Rattle.workers.specs.Serving.{GainsByServing}
@@ -80,23 +85,31 @@ pub record ServesObject {X E R C B A : Type 0} (step : ℕ → E → X → R →
   pub left : X
   pub leaves : Leaves step object (known_to back).seen left
 
+-- A connection came and was attended to as HTTP by a CSE of this home: behind a fan-out the members
+-- at other CSEs are asked as well.
+abbrev pub AttendsWidely : {S X C L : Type 0} → (S → List (Marked Event Outcome) → S → Type 0)
+    → (X → ConnTold) → (C → Option (List ℕ)) → (L → LinkTold) → HomeData
+    → S → X → Bench C L → S → Attended X → Bench C L → Type 0
+AttendsWidely grown conn clock link home =
+    AttendsBy grown (TalksHttp (wide home) conn) clock link
+
 -- what is done over HTTP, or else what is done over WebSocket, as the words say
 abbrev pub ByBind : Bind → Type 0 → Type 0 → Type 0
 ByBind over_http http ws = http
 ByBind over_ws http ws = ws
 
--- Connections were attended to by an entity that opened as this one, each as HTTP or each as a
--- WebSocket, as the words say, by as many workers as they say, where there are benches for so many,
--- beside an errand.
+-- Connections were attended to by an entity that opened as this one, each as HTTP at this home or
+-- each as a WebSocket, as the words say, by as many workers as they say, where there are benches
+-- for so many, beside an errand.
 abbrev pub ServesEntity : {C B A W : Type 0}
-    → (DeskSeat EntityData Event Outcome → C → B
+    → (HomeData → DeskSeat EntityData Event Outcome → C → B
     → DeskSeat EntityData Event Outcome → A → B → Type 0)
     → (DeskSeat EntityData Event Outcome → C → B
     → DeskSeat EntityData Event Outcome → W → B → Type 0)
     → (DeskSeat EntityData Event Outcome → B → DeskSeat EntityData Event Outcome → B → Type 0)
-    → List B → Serving → EntityData → B → B → Type 0
-ServesEntity http ws does benches serving opened old new = ByBind serving.bind
-    (ServesObject Step http does (take (max 1 serving.workers + 1) benches) opened old new)
+    → List B → HomeData → Serving → EntityData → B → B → Type 0
+ServesEntity http ws does benches home serving opened old new = ByBind serving.bind
+    (ServesObject Step (http home) does (take (max 1 serving.workers + 1) benches) opened old new)
     (ServesObject Step ws does (take (max 1 serving.workers + 1) benches) opened old new)
 
 -- A server with this first bench, whose clock gives one reading: at it the entity with this home

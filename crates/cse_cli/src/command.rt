@@ -6,8 +6,8 @@ ghost use Rattle.command_words.specs.Line.{command_in};
 ghost use Rattle.command_words.specs.Reading.{task_by};
 ghost use Rattle.cse_cli.specs.Devices.{devices_by};
 ghost use Rattle.cse_cli.specs.Running.{RunsCommand, RunsTask};
-ghost use Rattle.cse_cli.specs.Serve.{ServesEntity};
-ghost use Rattle.cse_server.specs.Attending.{Attends, AttendsBy, SeatGrows, SendsFrom, conn_tells};
+ghost use Rattle.cse_cli.specs.Serve.{AttendsWidely, ServesEntity};
+ghost use Rattle.cse_server.specs.Attending.{AttendsBy, SeatGrows, SendsFrom, conn_tells};
 ghost use Rattle.cse_server.specs.Attending.{link_tells};
 ghost use Rattle.desk_replies.specs.Rule.{plainly};
 ghost use Rattle.workers.specs.Gate.{door_tells};
@@ -53,7 +53,7 @@ where
     L: Drop,
     ensures { let devices = devices_by S.left S.faults O.written O.puts O.faults C.readings
         (link_tells L.exchanges L.faults) (door_tells D.opened D.given D.ended D.faults) in
-        let http = Attends SeatGrows
+        let http = AttendsWidely SeatGrows
         (conn_tells D.Conn.left D.Conn.written D.Conn.puts D.Conn.Source.faults
         D.Conn.Sink.faults) C.readings (link_tells L.exchanges L.faults) in
         let ws = AttendsBy SeatGrows (TalksWs plainly) C.readings
@@ -124,7 +124,7 @@ where
     // that are none.
     ensures runs { let devices = devices_by S.left S.faults O.written O.puts O.faults C.readings
         (link_tells L.exchanges L.faults) (door_tells D.opened D.given D.ended D.faults) in
-        let http = Attends SeatGrows
+        let http = AttendsWidely SeatGrows
         (conn_tells D.Conn.left D.Conn.written D.Conn.puts D.Conn.Source.faults
         D.Conn.Sink.faults) C.readings (link_tells L.exchanges L.faults) in
         let ws = AttendsBy SeatGrows (TalksWs plainly) C.readings

@@ -3,12 +3,12 @@ ghost use Rattle.std.specs.Prelude.{◌≡◌, ◌≢◌, ◌↔◌, ◌⊎◌, 
 ghost use Rattle.cse_server.specs.Outside.{EndsByFault, SinkTold, link_told, outside};
 ghost use Rattle.cse_server.specs.Outside.{sink_told};
 ghost use Rattle.entity_model.specs.Opening.{opening};
-ghost use Rattle.cse_cli.specs.Run.{EndsBehind, SendsBehind, ServesStreams};
+ghost use Rattle.cse_cli.specs.Run.{EndsBehind, SendsBehind, ServesOpened, ServesStreams};
 
 use cse_server::{Bench, Ended, Served, Wire, send_alone, serve_alone};
-use desk_replies::Plainly;
 use entity_model::Entity;
 use m2m_io::{Clock, Link, Sink, Source, Status};
+use remote_members::Wide;
 use resource_tree::IndexTree;
 use service_observer::ItemObserver;
 use std::alloc::{AllocError as OutOfMemory, Global};
@@ -76,8 +76,43 @@ fn finish<C: Clock, L: Link + ItemObserver>(
     }
 }
 
-/// Opens an entity with this home at the clock's first reading, serves input and output as one
-/// connection, and sends the items that this leaves in the outbox.
+/// Serves input and output as one connection of an entity that opened for this home, also for
+/// members of groups at other CSEs, and sends the items that this leaves in the outbox.
+fn serve_opened<S: Source, O: Sink, C: Clock, L: Link + ItemObserver>(
+    alloc: Global,
+    home: &Home,
+    served: Served<IndexTree>,
+    input: &mut S,
+    out: &mut O,
+    bench: &mut Bench<C, L>,
+) -> Status
+    ensures runs { let old = outside (S.left input.old)
+        (sink_told (O.written out.old) (O.puts out.old)) (C.readings bench.old.clock)
+        (link_told (L.exchanges bench.old.link) (L.faults bench.old.link)) in
+        let new = outside (S.left input.new)
+        (sink_told (O.written out.new) (O.puts out.new)) (C.readings bench.new.clock)
+        (link_told (L.exchanges bench.new.link) (L.faults bench.new.link)) in
+        ServesOpened home.now served old new result }
+    ensures command { result ≢ Status.Usage }
+    ensures reads { EndsByFault Status.ReadFault result (S.faults input.old) (S.faults input.new) }
+    ensures writes { EndsByFault Status.WriteFault result (O.faults out.old) (O.faults out.new) }
+{
+    let mut seat = OwnSeat::new(served);
+    let mut wire = Wire::new(input, out);
+    let replier = Wide { home };
+    let ended = serve_alone(
+        alloc,
+        &mut seat,
+        &mut wire,
+        &mut bench.clock,
+        &mut bench.link,
+        &replier,
+    );
+    finish(alloc, &mut seat, bench, ended)
+}
+
+/// Opens an entity with this home at the clock's first reading, and serves input and output as one
+/// connection of it.
 pub(crate) fn serve_streams<S: Source, O: Sink, C: Clock, L: Link + ItemObserver>(
     alloc: Global,
     home: Home,
@@ -97,18 +132,11 @@ pub(crate) fn serve_streams<S: Source, O: Sink, C: Clock, L: Link + ItemObserver
     ensures writes { EndsByFault Status.WriteFault result (O.faults out.old) (O.faults out.new) }
 {
     let reading = bench.clock.now();
-    let Ok(served) = opened(alloc, home, reading, 0) else {
+    let Ok(own) = home.copy(alloc) else {
         return Status::Memory;
     };
-    let mut seat = OwnSeat::new(served);
-    let mut wire = Wire::new(input, out);
-    let ended = serve_alone(
-        alloc,
-        &mut seat,
-        &mut wire,
-        &mut bench.clock,
-        &mut bench.link,
-        &Plainly,
-    );
-    finish(alloc, &mut seat, bench, ended)
+    match opened(alloc, own, reading, 0) {
+        Ok(served) => serve_opened(alloc, &home, served, input, out, bench),
+        Err(_) => Status::Memory,
+    }
 }

@@ -3,11 +3,13 @@
 //! and the output as one connection of an entity, `replay`, which answers the lines of the input,
 //! `twin`, which compares two entities that the lines of the input prepare, `serve`, which serves
 //! the connections of the door, and `gen`, which makes requests of its own and writes one line on
-//! what they are answered. Callers see of each what `RunsCommand` says (specs/Running). A program
-//! that has read its words itself hands `run_command` the command, of which `RunsTask` says the
-//! same, with the `Server` for one that serves. Commands over a journal share `told`, which says
-//! how a command ended, `benches_for`, which are the benches of a server, and `seed`, by which the
-//! tables of a tree hash and which clients don't know.
+//! what they are answered. Over HTTP `http` and `serve` ask members of groups at other CSEs as
+//! well; over WebSocket, and in lines, the machine alone answers. Callers see of each what
+//! `RunsCommand` says (specs/Running). A program that has read its words itself hands `run_command`
+//! the command, of which `RunsTask` says the same, with the `Server` for one that serves. Commands
+//! over a journal share `told`, which says how a command ended, `benches_for`, which are the
+//! benches of a server, and `seed`, by which the tables of a tree hash and which clients don't
+//! know.
 //!
 //! ```text
 //! let words = ["serve", "--listen", "127.0.0.1:8080"];

@@ -1,19 +1,21 @@
 //! The command `serve`.
 ghost use Rattle.std.specs.Prelude.{◌≡◌, ◌≢◌, ◌≤◌, ◌+◌, max, take, vec_len};
 ghost use Rattle.command_words.specs.Reading.{serving_by};
-ghost use Rattle.cse_server.specs.Attending.{Attends, AttendsBy, SeatGrows, SendsFrom, conn_tells};
+ghost use Rattle.cse_server.specs.Attending.{AttendsBy, SeatGrows, SendsFrom, conn_tells};
 ghost use Rattle.cse_server.specs.Attending.{link_tells};
 ghost use Rattle.desk_replies.specs.Rule.{plainly};
 ghost use Rattle.ws_binding.specs.Binding.{TalksWs};
 ghost use Rattle.workers.specs.Gate.{door_tells};
-ghost use Rattle.cse_cli.specs.Serve.{OpensServer, ServesEntity, ServesObject, ServesOpen};
+ghost use Rattle.cse_cli.specs.Serve.{AttendsWidely, OpensServer, ServesEntity, ServesObject};
+ghost use Rattle.cse_cli.specs.Serve.{ServesOpen};
 
 use crate::http::opened;
 use command_words::{Bind, Serving};
 use cse_machine::{Event, Outcome};
-use cse_server::{Attended, Bench, HttpBinding, ServeFault, Served, serve_by};
+use cse_server::{Attended, Bench, ServeFault, Served, serve_by};
 use desk_replies::{Binding, Plainly};
 use m2m_io::{Clock, Door, Link, Status};
+use remote_members::WideService;
 use resource_tree::IndexTree;
 use service_observer::{ItemObserver, ReplyObserver};
 use std::alloc::Global;
@@ -109,14 +111,16 @@ pub fn seed<R: time::Clock>(rt: &R) -> u64 {
     nanos_of(rt.monotonic()) ^ nanos_of(rt.since_1970())
 }
 
-/// Serves the connections of an open door by an entity, each by the protocol that the words say, of
-/// which as many are accepted at most as they say, by as many workers as they say, beside a sender
-/// of what waits in its outbox.
+/// Serves the connections of an open door by an entity of this home, each by the protocol that the
+/// words say, of which as many are accepted at most as they say, by as many workers as they say,
+/// beside a sender of what waits in its outbox. Over HTTP members of groups at other CSEs are asked
+/// as well.
 fn serve_bound<R, D, C, L>(
     rt: &R,
     own_rt: R,
     alloc: Global,
     served: Served<IndexTree>,
+    home: Home,
     serving: Serving<'_>,
     door: D,
     first: &mut Bench<C, L>,
@@ -129,13 +133,13 @@ where
     C: Clock + Send + Drop,
     L: Link + ItemObserver + Send + Drop,
     requires benches { 2 ≤ vec_len benches }
-    ensures serves { let http = Attends SeatGrows
+    ensures serves { let http = AttendsWidely SeatGrows
         (conn_tells D.Conn.left D.Conn.written D.Conn.puts D.Conn.Source.faults
         D.Conn.Sink.faults) C.readings (link_tells L.exchanges L.faults) in
         let ws = AttendsBy SeatGrows (TalksWs plainly) C.readings
         (link_tells L.exchanges L.faults) in
         let sends = SendsFrom SeatGrows C.readings (link_tells L.exchanges L.faults) in
-        ServesOpen (ServesEntity http ws sends benches.items (serving_by serving.entry) served
+        ServesOpen (ServesEntity http ws sends benches.items home (serving_by serving.entry) served
         first.old first.new) (first.new ≡ first.old) serving.entry.accept
         (door_tells D.opened D.given D.ended D.faults door)
         (door_tells D.opened D.given D.ended D.faults result.1) result.0 }
@@ -145,8 +149,8 @@ where
     let benches = benches_for(serving, benches);
     match serving.bind {
         Bind::Http => {
-            let binding = HttpBinding { replier: Plainly };
-            serve_at_desk::<R, Served<IndexTree>, D, C, L, Attended<D::Conn>, HttpBinding<Plainly>>(
+            let binding = WideService::new(home);
+            serve_at_desk::<R, Served<IndexTree>, D, C, L, Attended<D::Conn>, WideService>(
                 rt, own_rt, alloc, served, door, accept, first, benches, &binding,
             )
         }
@@ -178,20 +182,23 @@ where
     C: Clock + Send + Drop,
     L: Link + ItemObserver + Send + Drop,
     requires benches { 2 ≤ vec_len benches }
-    ensures opens { let http = Attends SeatGrows
+    ensures opens { let http = AttendsWidely SeatGrows
         (conn_tells D.Conn.left D.Conn.written D.Conn.puts D.Conn.Source.faults
         D.Conn.Sink.faults) C.readings (link_tells L.exchanges L.faults) in
         let ws = AttendsBy SeatGrows (TalksWs plainly) C.readings
         (link_tells L.exchanges L.faults) in
         let sends = SendsFrom SeatGrows C.readings (link_tells L.exchanges L.faults) in
-        OpensServer (ServesEntity http ws sends benches.items (serving_by serving.entry))
+        OpensServer (ServesEntity http ws sends benches.items home (serving_by serving.entry))
         (serving_by serving.entry) home C.readings first.old first.new
         (door_tells D.opened D.given D.ended D.faults door)
         (door_tells D.opened D.given D.ended D.faults result.1) result.0 }
     ensures command { result.0 ≢ Status.Usage }
 {
     let reading = first.clock.now();
-    let Ok(served) = opened(alloc, home, reading, seed(rt)) else {
+    let Ok(own) = home.copy(alloc) else {
+        return (Status::Memory, door);
+    };
+    let Ok(served) = opened(alloc, own, reading, seed(rt)) else {
         return (Status::Memory, door);
     };
     let Ok(own_rt) = rt.clone() else {
@@ -200,5 +207,7 @@ where
     if let Err(_) = door.open(serving.listen.as_bytes()) {
         return (Status::ReadFault, door);
     }
-    serve_bound(rt, own_rt, alloc, served, serving, door, first, benches)
+    serve_bound(
+        rt, own_rt, alloc, served, home, serving, door, first, benches,
+    )
 }

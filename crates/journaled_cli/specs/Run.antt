@@ -19,7 +19,7 @@ use Rattle.entity_model.specs.Entity.{EntityData}
 use Rattle.journal_events.specs.Steps.{KeptEntityStep}
 use Rattle.journal_events.specs.declared.event.KeptEvent.{KeptEvent}
 use Rattle.journal_events.specs.declared.event.KeptOutcome.{KeptOutcome}
-use Rattle.desk_replies.specs.Rule.{plainly}
+use Rattle.remote_members.specs.Wide.{wide}
 use Rattle.cse_server.specs.Connection.{Serves}
 use Rattle.cse_server.specs.Outside.{LinkTold, Outside, outside, sink_told}
 use Rattle.cse_server.specs.declared.bench.Bench.{Bench}
@@ -92,18 +92,18 @@ module _ {S : Type 0} (grown : S → List (Marked KeptEvent (Answer KeptOutcome)
   EndsBehind EndedStarved before after old new status =
       (status ≡ Memory) × (after ≡ before) × (new ≡ old)
 
--- Input and output were served as one connection of an object that is kept, and then what it left
--- in the outbox was sent. The turns were taken by that object, one after another, and by nobody
--- else.
+-- Input and output were served as one connection of an object that is kept, for the CSE of this
+-- home, and then what it left in the outbox was sent. The turns, for requests and behind each for
+-- those to members at other CSEs, were taken by that object, one after another, and by nobody else.
 pub record ServesStreams {F : Type 0} (turns : ℕ → Turn KeptEvent → KeptData EntityData F
-    → Report KeptOutcome → KeptData EntityData F → Type 0) (opened : KeptData EntityData F)
-    (old new : Outside) (status : Status) : Type 0 where
+    → Report KeptOutcome → KeptData EntityData F → Type 0) (home : HomeData)
+    (opened : KeptData EntityData F) (old new : Outside) (status : Status) : Type 0 where
   pub between : KeptData EntityData F
   pub after : KeptData EntityData F
   pub served : Outside
   pub ended : Ended
   pub sent : Status
-  pub serves : Serves plainly (AnswersGrown (IsOwnRun turns)) opened between old served ended
+  pub serves : Serves (wide home) (AnswersGrown (IsOwnRun turns)) opened between old served ended
   pub behind : EndsBehind (KeptGrown (IsOwnRun turns)) ended between after served new sent
   pub status_is : status ≡ status_of after.journal.is_failed sent
 
@@ -161,15 +161,17 @@ module _ {F : Type 0} (tells : Type 0) (seen : F → List ℕ) (may_leave : F �
       × ((status ≡ status_of served.left.journal.is_failed Done)
       ⊎ (status ≡ status_of served.left.journal.is_failed ReadFault))
 
-  -- That, each connection being attended to as HTTP or each as a WebSocket, as the words say, by as
-  -- many workers as they say, where there are benches for so many, beside an errand.
+  -- That, each connection being attended to as HTTP at this home or each as a WebSocket, as the
+  -- words say, by as many workers as they say, where there are benches for so many, beside an errand.
   abbrev pub ServesByWords : {C B A W : Type 0}
-      → (KeptSeat F → C → B → KeptSeat F → A → B → Type 0)
+      → (HomeData → KeptSeat F → C → B → KeptSeat F → A → B → Type 0)
       → (KeptSeat F → C → B → KeptSeat F → W → B → Type 0)
       → (KeptSeat F → B → KeptSeat F → B → Type 0)
-      → List B → B → B → Serving → KeptData EntityData F → Status → Type 0
-  ServesByWords by_http by_ws does benches old new serving opened status = ByBind serving.bind
-      (ServesKept by_http does (take (max 1 serving.workers + 1) benches) old new opened status)
+      → List B → B → B → HomeData → Serving → KeptData EntityData F → Status → Type 0
+  ServesByWords by_http by_ws does benches old new home serving opened status =
+      ByBind serving.bind
+      (ServesKept (by_http home) does (take (max 1 serving.workers + 1) benches) old new opened
+      status)
       (ServesKept by_ws does (take (max 1 serving.workers + 1) benches) old new opened status)
 
   -- The command `serve` with an entity that was opened: connections were `served` by it, or nobody
@@ -180,24 +182,25 @@ module _ {F : Type 0} (tells : Type 0) (seen : F → List ℕ) (may_leave : F �
     pub out : new.out ≡ old.out
     pub serves : served opened status ⊎ StaysShut old new status
 
-  -- What is done for a task with an entity that was opened at its journal. With `http` input and
-  -- output were served as one connection of it, and with `serve` connections of the door. Nothing
-  -- else is done so.
-  abbrev pub DoesTask : (Serving → KeptData EntityData F → Status → Type 0) → Task
-      → KeptData EntityData F → Outside → Outside → Status → Type 0
-  DoesTask served http opened old new status =
-      ServesStreams (KeptTurns tells seen may_leave moment left_since) opened old new status
-  DoesTask served replay opened old new status = (status ≡ Usage) × (new ≡ old)
-  DoesTask served twin opened old new status = (status ≡ Usage) × (new ≡ old)
-  DoesTask served (serve serving) opened old new status =
-      ServesDoor (served serving) opened old new status
-  DoesTask served (generate requests) opened old new status = (status ≡ Usage) × (new ≡ old)
+  -- What is done for a task with an entity that was opened at the journal of this home. With `http`
+  -- input and output were served as one connection of it, and with `serve` connections of the door.
+  -- Nothing else is done so.
+  abbrev pub DoesTask : (HomeData → Serving → KeptData EntityData F → Status → Type 0) → Task
+      → HomeData → KeptData EntityData F → Outside → Outside → Status → Type 0
+  DoesTask served http home opened old new status =
+      ServesStreams (KeptTurns tells seen may_leave moment left_since) home opened old new status
+  DoesTask served replay home opened old new status = (status ≡ Usage) × (new ≡ old)
+  DoesTask served twin home opened old new status = (status ≡ Usage) × (new ≡ old)
+  DoesTask served (serve serving) home opened old new status =
+      ServesDoor (served home serving) opened old new status
+  DoesTask served (generate requests) home opened old new status =
+      (status ≡ Usage) × (new ≡ old)
 
   -- A task over a journal: the entity of this home was opened at the file, and this was done with
   -- it; or nobody was served, and the file is given back.
-  abbrev pub RunsTask : (Serving → KeptData EntityData F → Status → Type 0) → Task → HomeData → F
-      → Outside → Outside → Option F → Status → Type 0
+  abbrev pub RunsTask : (HomeData → Serving → KeptData EntityData F → Status → Type 0) → Task
+      → HomeData → F → Outside → Outside → Option F → Status → Type 0
   RunsTask served task home file old new back status =
       ((opened : KeptData EntityData F) × OpensAt tells seen may_leave home file opened
-      × DoesTask served task opened old new status × (back ≡ None))
+      × DoesTask served task home opened old new status × (back ≡ None))
       ⊎ ServesNone tells seen may_leave moment left_since home file old new back status

@@ -1,11 +1,15 @@
 //! Commands over a journal.
-ghost use Rattle.std.specs.Prelude.{◌≡◌};
+ghost use Rattle.std.specs.Prelude.{◌≡◌, ◌≢◌, [], IfErr, IfOk};
 ghost use Rattle.command_words.specs.Reading.{task_by};
+ghost use Rattle.cse_cli.specs.Serve.{AttendsWidely};
 ghost use Rattle.cse_server.specs.Attending.{conn_tells, link_tells};
 ghost use Rattle.desk_replies.specs.Rule.{plainly};
+ghost use Rattle.journal_opening.specs.Opening.{IsRefused, StaysAsItWas};
 ghost use Rattle.journaled_cli.specs.Run.{DoesTask, RunsTask, ServesByWords};
 ghost use Rattle.journaled_cli.specs.Run.{outside_by, refusal};
-ghost use Rattle.journaled_server.specs.Serving.{AttendsKept, AttendsKeptBy, SendsKept, TurnsGrow};
+ghost use Rattle.journaled_entity.specs.Opened.{OpensAt};
+ghost use Rattle.journaled_server.specs.Serving.{AnswersGrown, AttendsKeptBy, SendsKept};
+ghost use Rattle.journaled_server.specs.Serving.{TurnsGrow};
 ghost use Rattle.kept_file.specs.Crashes.{LeavesThis};
 ghost use Rattle.ws_binding.specs.Binding.{TalksWs};
 
@@ -16,8 +20,9 @@ use crate::streams::CommandStreams;
 use command_words::{Command, Task};
 use cse_cli::{Server, seed, told};
 use journal_opening::OpeningFault;
-use journaled_entity::{Unopened, open_kept};
+use journaled_entity::{Journaled, Unopened, open_kept};
 use kept_file::NamedFile;
+use kept_object::KeptObject;
 use m2m_io::{Clock, Door, Link, Sink, Source, Status};
 use resource_tree::IndexTree;
 use service_observer::{ItemObserver, ReplyObserver};
@@ -25,6 +30,7 @@ use std::alloc::{AllocError as OutOfMemory, Global};
 use std::sync::Wait;
 use std::thread::Threads;
 use std::time;
+use tree_model::{Home, Tree};
 
 /// The status where a file isn't opened for this fault.
 pub(crate) fn refusal(fault: OpeningFault) -> Status
@@ -91,7 +97,32 @@ fn refuse<E: Sink>(alloc: Global, err: &mut E, name: &str, fault: OpeningFault) 
     refusal(fault)
 }
 
-/// Does a task with an entity that was opened at its journal. `http` and `serve` alone are done so.
+/// The entity of a home that the journal in a file makes, as `open_kept` opens it. The home is
+/// copied before the file is read; where memory runs out then, nothing was read.
+fn open_at<F: NamedFile + Drop, T: Tree>(
+    alloc: Global,
+    home: &Home,
+    tree: T,
+    file: F,
+) -> Result<KeptObject<Journaled<T>, F>, Unopened<F>>
+    requires tree { T.nodes tree ≡ [] }
+    requires kept { F.tells → LeavesThis (F.seen file) (F.may_leave file) }
+    ensures opens { IfOk result (OpensAt F.tells F.seen F.may_leave home.now file) }
+    ensures refused { F.tells → IfErr result (λ u. IsRefused home.now (F.seen file) u.fault) }
+    ensures stays { F.tells → IfErr result (λ u. u.fault ≢ OpeningFault.Failed
+        → StaysAsItWas F.seen F.may_leave F.moment F.left_since file u.file) }
+{
+    let Ok(own) = home.copy(alloc) else {
+        return Err(Unopened {
+            fault: OpeningFault::OutOfMemory,
+            file,
+        });
+    };
+    open_kept(alloc, own, tree, file)
+}
+
+/// Does a task with an entity that was opened at the journal of this home. `http` and `serve` alone
+/// are done so.
 fn do_task<
     R,
     S: Source,
@@ -104,6 +135,7 @@ fn do_task<
 >(
     rt: &R,
     alloc: Global,
+    home: Home,
     task: Task,
     object: KeptEntity<F>,
     streams: &mut CommandStreams<S, O, E, C, L>,
@@ -118,7 +150,7 @@ where
     L: Drop,
     ensures { let told = outside_by S.left O.written O.puts C.readings
         (link_tells L.exchanges L.faults) in
-        let http = AttendsKept TurnsGrow
+        let http = AttendsWidely (AnswersGrown TurnsGrow)
         (conn_tells D.Conn.left D.Conn.written D.Conn.puts D.Conn.Source.faults
         D.Conn.Sink.faults) C.readings (link_tells L.exchanges L.faults) in
         let ws = AttendsKeptBy TurnsGrow (TalksWs plainly) C.readings
@@ -127,7 +159,7 @@ where
         let served = ServesByWords F.tells F.seen F.may_leave F.moment F.left_since http ws sends
         server.benches.items streams.old.first streams.new.first in
         DoesTask F.tells F.seen F.may_leave F.moment F.left_since served (task_by task.entry)
-        object (told streams.old.input streams.old.out streams.old.first)
+        home object (told streams.old.input streams.old.out streams.old.first)
         (told streams.new.input streams.new.out streams.new.first) result }
 {
     let CommandStreams {
@@ -138,8 +170,8 @@ where
     } = streams;
     let Server { door, benches } = server;
     match task {
-        Task::Http => serve_streams(alloc, object, input, out, first),
-        Task::Serve(serving) => serve_door(rt, alloc, object, serving, door, first, benches),
+        Task::Http => serve_streams(alloc, &home, object, input, out, first),
+        Task::Serve(serving) => serve_door(rt, alloc, home, object, serving, door, first, benches),
         Task::Replay => Status::Usage,
         Task::Twin => Status::Usage,
         Task::Generate(_) => Status::Usage,
@@ -183,7 +215,7 @@ where
     // that holds none of its home is refused and stays as it was. No other command is done.
     ensures runs { let told = outside_by S.left O.written O.puts C.readings
         (link_tells L.exchanges L.faults) in
-        let http = AttendsKept TurnsGrow
+        let http = AttendsWidely (AnswersGrown TurnsGrow)
         (conn_tells D.Conn.left D.Conn.written D.Conn.puts D.Conn.Source.faults
         D.Conn.Sink.faults) C.readings (link_tells L.exchanges L.faults) in
         let ws = AttendsKeptBy TurnsGrow (TalksWs plainly) C.readings
@@ -198,9 +230,9 @@ where
 {
     let Command { task, home } = command;
     let tree = IndexTree::seeded(alloc, seed(rt));
-    match open_kept(alloc, home, tree, file) {
+    match open_at(alloc, &home, tree, file) {
         Ok(object) => {
-            let status = do_task(rt, alloc, task, object, streams, server);
+            let status = do_task(rt, alloc, home, task, object, streams, server);
             told(&mut streams.err, (status, None))
         }
         Err(unopened) => {

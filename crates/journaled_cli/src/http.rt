@@ -8,13 +8,14 @@ ghost use Rattle.journaled_cli.specs.Run.{KeptTurns, SendsBehind, ServesStreams,
 
 use crate::kept::KeptEntity;
 use cse_server::{Bench, Ended, Wire};
-use desk_replies::Plainly;
 use journaled_server::{send_kept_alone, serve_kept_alone};
 use kept_file::NamedFile;
 use kept_object::KeptObject;
 use m2m_io::{Clock, Link, Sink, Source, Status};
+use remote_members::Wide;
 use service_observer::ItemObserver;
 use std::alloc::Global;
+use tree_model::Home;
 use turn_desk::OwnSeat;
 
 /// Sends the items of the outbox of the entity at a seat. The status is this one, unless memory
@@ -77,8 +78,8 @@ pub(crate) fn status_of<O: Drop, F: NamedFile + Drop>(
     }
 }
 
-/// Serves input and output as one connection of an entity that is kept, and sends the items that
-/// this leaves in the outbox.
+/// Serves input and output as one connection of an entity that is kept, for the CSE of this home,
+/// also for members of groups at other CSEs, and sends the items that this leaves in the outbox.
 pub(crate) fn serve_streams<
     F: NamedFile + Drop,
     S: Source,
@@ -87,6 +88,7 @@ pub(crate) fn serve_streams<
     L: Link + ItemObserver,
 >(
     alloc: Global,
+    home: &Home,
     object: KeptEntity<F>,
     input: &mut S,
     out: &mut O,
@@ -99,17 +101,18 @@ pub(crate) fn serve_streams<
         (sink_told (O.written out.new) (O.puts out.new)) (C.readings bench.new.clock)
         (link_told (L.exchanges bench.new.link) (L.faults bench.new.link)) in
         ServesStreams (KeptTurns F.tells F.seen F.may_leave F.moment F.left_since)
-        object old new result }
+        home.now object old new result }
 {
     let mut seat = OwnSeat::new(object);
     let mut wire = Wire::new(input, out);
+    let replier = Wide { home };
     let ended = serve_kept_alone(
         alloc,
         &mut seat,
         &mut wire,
         &mut bench.clock,
         &mut bench.link,
-        &Plainly,
+        &replier,
     );
     let status = finish(alloc, &mut seat, bench, ended);
     status_of(seat.into_object(), status)

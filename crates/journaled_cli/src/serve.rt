@@ -1,27 +1,31 @@
 //! The command `serve` over a journal.
 ghost use Rattle.std.specs.Prelude.{◌≡◌, ◌⊎◌, ◌≤◌, IfSome, vec_len};
 ghost use Rattle.command_words.specs.Reading.{serving_by};
+ghost use Rattle.cse_cli.specs.Serve.{AttendsWidely};
 ghost use Rattle.cse_server.specs.Attending.{conn_tells, link_tells};
 ghost use Rattle.desk_replies.specs.Rule.{plainly};
 ghost use Rattle.journaled_cli.specs.Run.{LeavesServed, ServesByWords, ServesKept, StaysShut};
-ghost use Rattle.journaled_server.specs.Serving.{AttendsKept, AttendsKeptBy, SendsKept, TurnsGrow};
+ghost use Rattle.journaled_server.specs.Serving.{AnswersGrown, AttendsKeptBy, SendsKept};
+ghost use Rattle.journaled_server.specs.Serving.{TurnsGrow};
 ghost use Rattle.ws_binding.specs.Binding.{TalksWs};
 
 use crate::http::status_of;
 use crate::kept::KeptEntity;
 use command_words::{Bind, Serving};
 use cse_cli::benches_for;
-use cse_server::{Attended, Bench, HttpBinding, ServeFault};
+use cse_server::{Attended, Bench, ServeFault};
 use desk_replies::{Binding, Plainly};
 use journal_events::{KeptEvent, KeptOutcome};
 use journaled_server::{LossDoor, LossSignal, serve_journaled};
 use kept_desk::{Report, Turn};
 use kept_file::NamedFile;
 use m2m_io::{Clock, Door, Link, Status};
+use remote_members::WideService;
 use service_observer::{ItemObserver, ReplyObserver};
 use std::alloc::Global;
 use std::sync::{Arc, Wait};
 use std::thread::Threads;
+use tree_model::Home;
 use turn_desk::{Object, TurnDesk};
 use ws_binding::{Talked, WsBinding};
 
@@ -114,12 +118,14 @@ where
     }
 }
 
-/// Serves the connections of an open door by an entity that is kept, each by the protocol that the
-/// words say, by as many workers as they say, beside a sender of what waits in its outbox.
+/// Serves the connections of an open door by an entity that is kept, for the CSE of this home, each
+/// by the protocol that the words say, by as many workers as they say, beside a sender of what waits
+/// in its outbox. Over HTTP members of groups at other CSEs are asked as well.
 fn serve_bound<R, F, D, C, L>(
     rt: &R,
     own_rt: R,
     alloc: Global,
+    home: Home,
     object: KeptEntity<F>,
     serving: Serving<'_>,
     door: D,
@@ -134,22 +140,22 @@ where
     C: Clock + Send + Drop,
     L: Link + ItemObserver + Send + Drop,
     requires { 2 ≤ vec_len benches }
-    ensures { let http = AttendsKept TurnsGrow
+    ensures { let http = AttendsWidely (AnswersGrown TurnsGrow)
         (conn_tells D.Conn.left D.Conn.written D.Conn.puts D.Conn.Source.faults
         D.Conn.Sink.faults) C.readings (link_tells L.exchanges L.faults) in
         let ws = AttendsKeptBy TurnsGrow (TalksWs plainly) C.readings
         (link_tells L.exchanges L.faults) in
         let sends = SendsKept TurnsGrow C.readings (link_tells L.exchanges L.faults) in
         ServesByWords F.tells F.seen F.may_leave F.moment F.left_since http ws sends benches.items
-        first.old first.new (serving_by serving.entry) object result
+        first.old first.new home (serving_by serving.entry) object result
         ⊎ StaysShut first.old first.new result }
 {
     let accept = serving.accept;
     let benches = benches_for(serving, benches);
     match serving.bind {
         Bind::Http => {
-            let binding = HttpBinding { replier: Plainly };
-            serve_kept::<R, F, D, C, L, Attended<D::Conn>, HttpBinding<Plainly>>(
+            let binding = WideService::new(home);
+            serve_kept::<R, F, D, C, L, Attended<D::Conn>, WideService>(
                 rt, own_rt, alloc, object, door, accept, first, benches, &binding,
             )
         }
@@ -162,12 +168,13 @@ where
     }
 }
 
-/// Opens the door where the words say, and serves its connections by an entity that is kept, each by
-/// the protocol that they say, by as many workers as they say, beside a sender of what waits in its
-/// outbox.
+/// Opens the door where the words say, and serves its connections by an entity that is kept, for the
+/// CSE of this home, each by the protocol that they say, by as many workers as they say, beside a
+/// sender of what waits in its outbox.
 pub(crate) fn serve_door<R, F, D, C, L>(
     rt: &R,
     alloc: Global,
+    home: Home,
     object: KeptEntity<F>,
     serving: Serving<'_>,
     mut door: D,
@@ -182,14 +189,14 @@ where
     C: Clock + Send + Drop,
     L: Link + ItemObserver + Send + Drop,
     requires benches { 2 ≤ vec_len benches }
-    ensures { let http = AttendsKept TurnsGrow
+    ensures { let http = AttendsWidely (AnswersGrown TurnsGrow)
         (conn_tells D.Conn.left D.Conn.written D.Conn.puts D.Conn.Source.faults
         D.Conn.Sink.faults) C.readings (link_tells L.exchanges L.faults) in
         let ws = AttendsKeptBy TurnsGrow (TalksWs plainly) C.readings
         (link_tells L.exchanges L.faults) in
         let sends = SendsKept TurnsGrow C.readings (link_tells L.exchanges L.faults) in
         ServesByWords F.tells F.seen F.may_leave F.moment F.left_since http ws sends benches.items
-        first.old first.new (serving_by serving.entry) object result
+        first.old first.new home (serving_by serving.entry) object result
         ⊎ StaysShut first.old first.new result }
 {
     let Ok(own_rt) = rt.clone() else {
@@ -198,5 +205,7 @@ where
     if let Err(_) = door.open(serving.listen.as_bytes()) {
         return Status::ReadFault;
     }
-    serve_bound(rt, own_rt, alloc, object, serving, door, first, benches)
+    serve_bound(
+        rt, own_rt, alloc, home, object, serving, door, first, benches,
+    )
 }

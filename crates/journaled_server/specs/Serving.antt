@@ -15,10 +15,9 @@ use Rattle.cse_machine.specs.declared.event.Outcome.{Outcome}
 use Rattle.journal_events.specs.declared.event.KeptEvent.{KeptEvent}
 use Rattle.journal_events.specs.declared.event.KeptOutcome.{KeptOutcome}
 use Rattle.desk_replies.specs.Asking.{Asked}
-use Rattle.cse_server.specs.Attending.{Attends, AttendsBy, ConnTold}
+use Rattle.cse_server.specs.Attending.{AttendsBy}
 use Rattle.cse_server.specs.Outside.{LinkTold}
 use Rattle.cse_server.specs.declared.bench.Bench.{Bench}
-use Rattle.cse_server.specs.declared.binding.Attended.{Attended}
 use Rattle.journaled_server.specs.Plain.{PlainGrown}
 use Rattle.journaled_server.specs.Sending.{SendsThenTakes, sender}
 
@@ -42,13 +41,6 @@ abbrev pub AttendsKeptBy : {S X C L A : Type 0}
     → (X → Asked → A → Type 0) → (C → Option (List ℕ)) → (L → LinkTold)
     → S → X → Bench C L → S → A → Bench C L → Type 0
 AttendsKeptBy grown talks clock link = AttendsBy (AnswersGrown grown) talks clock link
-
--- So it was as HTTP, where nothing is asked behind a request.
-abbrev pub AttendsKept : {S X C L : Type 0}
-    → (S → List (Marked (Turn KeptEvent) (Report KeptOutcome)) → S → Type 0)
-    → (X → ConnTold) → (C → Option (List ℕ)) → (L → LinkTold)
-    → S → X → Bench C L → S → Attended X → Bench C L → Type 0
-AttendsKept grown conn clock link = Attends (AnswersGrown grown) conn clock link
 
 -- By one call of `send_kept` items that waited in an outbox were sent at a seat, with what lies at
 -- a bench, and behind each the seat said so. This came of it.

@@ -1,5 +1,5 @@
 -- What is carried over two links that answer alike.
-use Rattle.service_laws.proofs.Words.{◌≡◌, ℕ, true, false, List, [], ◌∷◌, ◌++◌, Option, Some, None, IfSome, inl, inr, refl, sym, ap, subst, ◌∙◌, All, option_map, option_to_list}
+use Rattle.service_laws.proofs.Words.{◌≡◌, ℕ, false, List, [], ◌∷◌, ◌++◌, Option, Some, None, IfSome, inl, inr, refl, sym, ap, subst, ◌∙◌, All, option_map, option_to_list}
 use Rattle.service_laws.proofs.Terms.{Carrying, Exchange, made_in, ReplyParts, RequestParts, Peer, Carried, Outcome, Done, Forward, Item, Ticked, Starved, GivesReply, GivesReplies, GoesOn, RepliesBy}
 use Rattle.service_laws.proofs.Facts.{true≢false, All-head, All-tail, same_Some, one_reply}
 use Rattle.http_forwarding.specs.Sending.{IsFor}

@@ -4,8 +4,11 @@ pub mod Facts
 pub mod LawLemmas
 pub mod GuardedLemmas
 pub mod CarriedLemmas
+pub mod QuestionLemmas
 pub mod OneWayLemmas
 pub mod RepeatLemmas
 pub mod PeerLemmas
 pub mod OnwardLemmas
 pub mod SentOnLemmas
+pub mod MemberLemmas
+pub mod OriginatorLemmas

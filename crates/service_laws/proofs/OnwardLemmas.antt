@@ -50,7 +50,7 @@ use Rattle.binding_laws.proofs.TargetLemmas.{all_append}
 use Rattle.service_laws.specs.Onward.{CanBeSaid, IsSayable, WhatGoesOnIsAnsweredThere, WhatGoesOnSaysAll}
 use Rattle.service_laws.specs.Peers.{AnswersOnce}
 use Rattle.service_laws.proofs.PeerLemmas.{answered_there, gives_told}
-use Rattle.service_laws.proofs.RepeatLemmas.{each_repeats, id_of_kind, kind_repeated}
+use Rattle.service_laws.proofs.RepeatLemmas.{first_repeats, id_of_kind, kind_repeated}
 
 -- ---- addresses
 
@@ -371,7 +371,7 @@ goes_on_answered reading request before after url sent goes there left given now
     let says = goes_on_said reading request before after url sent goes in
     let one = answered_there sent url there left given now answer says talks in
     let once : AnswersOnce there left given now talks.new.link (record sent { fc = one.0 }) one.2 = one.3 in
-    let repeats = each_repeats once.reading (record sent { fc = one.0 }) there left once.outcome one.2 once.carried once.step once.gives in
+    let repeats = first_repeats once.reading (record sent { fc = one.0 }) there left once.outcome one.2 once.carried once.step once.gives in
     let kind = kind_repeated (record sent { fc = one.0 }) one.2 repeats (id_of_kind sent says.sendable.kinds.form) in (
       one.0,
       one.1,

@@ -34,6 +34,7 @@ use Rattle.service_laws.proofs.OneWayLemmas.{Settles, heard_one_way, said_whole,
 use Rattle.cse_server.specs.Outside.{LinkTold}
 use Rattle.desk_replies.proofs.LinkLemmas.{carries_all}
 use Rattle.desk_replies.proofs.PlainLemmas.{plain_asked}
+use Rattle.desk_replies.specs.Rule.{plainly}
 use Rattle.http_forwarding.specs.Answers.{unreached}
 use Rattle.cse_machine.specs.Answer.{starved}
 use Rattle.std.specs.Prelude.{not}
@@ -166,7 +167,7 @@ told_failed carried (Some xs) tells alone = subst (λ (v : List Exchange). list_
 told_kind : (frame : Frame) (bound : Result RequestParts BindFault) (before after : EntityData) (given now : Option (List ℕ)) (link : LinkTold) (told : ReplyParts)
     → binding frame ≡ bound → IsOfItsKind (echo_of frame) → AnswersBound before after given now link bound (echo_of frame) told → IsReplyOfKinds told
 told_kind frame (Ok asked) before after given now link told is echo answers =
-    of_kinds answers.reading asked before after answers.outcome told answers.carried answers.step answers.gives (binds_to_kinds frame asked is).0.form
+    of_kinds plainly answers.reading asked before after answers.outcome told answers.carried [] (λ outcome reply replies. refl) answers.step answers.gives (binds_to_kinds frame asked is).0.form
 told_kind frame (Err fault) before after given now link told is echo answers = subst IsReplyOfKinds (sym answers.0) echo
 
 -- content that is sound, and no deeper than a text is read

@@ -34,7 +34,10 @@ use Rattle.group_fanout.specs.Fan.{fan_effect, rest_of}
 use Rattle.group_fanout.specs.Operations.{change_effect, operation_effect, reading_reply, relay_effect}
 use Rattle.group_fanout.specs.Rights.{claimed_originator}
 use Rattle.cse_machine.specs.Answer.{EventEffect, address_effect, as_done, effect_of, first_places, onward_effect, point_of, poll_effect, route_effect, spot_effect}
-use Rattle.service_laws.specs.Repeating.{EachReplyRepeatsTheIdentifier, Repeats, RepliesToFormsAreOfKinds}
+use Rattle.resource_model.specs.Home.{HomeData}
+use Rattle.remote_members.specs.Remote.{entries_anew, told_of_members}
+use Rattle.remote_members.specs.Wide.{completed, with_entries, wide}
+use Rattle.service_laws.specs.Repeating.{EachReplyRepeatsTheIdentifier, KeepsTheIdentifier, Repeats, RepliesToFormsAreOfKinds, TheRulesKeepTheIdentifier}
 
 -- what holds of each value, and of the one in its stead
 of_each : {A B : Type 0} (P : B → Type 0) (f : A → B) (other : B) → ((a : A) → P (f a)) → P other → (o : Option A) → P (option_map_or f o other)
@@ -177,9 +180,16 @@ gives_repeats request (Item given) reply carried kept gives = ap (λ (r : ReplyP
 gives_repeats request Ticked reply carried kept gives = ap (λ (r : ReplyParts). r.rqi) gives.0
 gives_repeats request (Starved done) reply carried kept gives = ap (λ (r : ReplyParts). r.rqi) gives.0
 
-pub each_repeats : EachReplyRepeatsTheIdentifier
-each_repeats reading request before after outcome reply carried step gives =
+-- the reply to the request itself
+pub first_repeats : (reading : ℕ) (request : RequestParts) (before after : EntityData) (outcome : Outcome) (reply : ReplyParts) (carried : List Carrying)
+    → Step reading (Ask request) before outcome after → GivesReply request outcome reply carried → Repeats request reply
+first_repeats reading request before after outcome reply carried step gives =
     gives_repeats request outcome reply carried (steps request reading before after outcome step) gives
+
+-- and the one that a rule gives by that
+pub each_repeats : EachReplyRepeatsTheIdentifier
+each_repeats rule reading request before after outcome reply carried replies keeps step gives =
+    keeps outcome reply replies ∙ first_repeats reading request before after outcome reply carried step gives
 
 -- a request of its form has an identifier of its kind
 pub id_of_kind : (r : RequestParts) → has_form r ≡ true → is_request_id r.rqi ≡ true
@@ -195,5 +205,22 @@ pub kind_repeated : (request : RequestParts) (reply : ReplyParts) → Repeats re
 kind_repeated request reply repeats kind = subst (λ (id : Option (List ℕ)). IfSome id (λ s. IsTrue (is_request_id s))) (sym repeats) kind
 
 pub of_kinds : RepliesToFormsAreOfKinds
-of_kinds reading request before after outcome reply carried step gives form =
-    kind_repeated request reply (each_repeats reading request before after outcome reply carried step gives) (id_of_kind request form)
+of_kinds rule reading request before after outcome reply carried replies keeps step gives form =
+    kind_repeated request (rule.told outcome reply replies)
+    (each_repeats rule reading request before after outcome reply carried replies keeps step gives) (id_of_kind request form)
+
+-- ---- the rules
+
+completed_keeps : (home : HomeData) (reply : ReplyParts) (replies : List ReplyParts) → (completed home reply replies).rqi ≡ reply.rqi
+completed_keeps home reply replies =
+    of_each (λ (r : ReplyParts). r.rqi ≡ reply.rqi) (λ entries. with_entries reply (entries_anew home entries replies)) reply (λ entries. refl) refl (told_of_members reply.pc)
+
+wide_keeps : (home : HomeData) → KeepsTheIdentifier (wide home)
+wide_keeps home (Done answered) reply replies = completed_keeps home reply replies
+wide_keeps home (Forward poa sent) reply replies = refl
+wide_keeps home (Item given) reply replies = refl
+wide_keeps home Ticked reply replies = refl
+wide_keeps home (Starved done) reply replies = refl
+
+pub rules_keep : TheRulesKeepTheIdentifier
+rules_keep = (λ outcome reply replies. refl, wide_keeps)

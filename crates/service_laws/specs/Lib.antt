@@ -1,4 +1,5 @@
 pub mod Laws
+pub mod Members
 pub mod Onward
 pub mod Peers
 pub mod Repeating

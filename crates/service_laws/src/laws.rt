@@ -1,13 +1,16 @@
 //! Laws of the definitions.
 ghost use Rattle.service_laws.specs.Laws.{EqualSightsAreServedAlike, IsAnsweredInOneWay};
 ghost use Rattle.service_laws.specs.Laws.{NothingIsAnsweredBehindClose, ServesGuarded};
-ghost use Rattle.service_laws.specs.Laws.{WithoutTheSegmentNonePolled};
+ghost use Rattle.service_laws.specs.Laws.{TheRulesAskForTheOriginator, TheRulesPollNoneBehind};
+ghost use Rattle.service_laws.specs.Laws.{WhatIsHeardTellsWhoAsks, WithoutTheSegmentNonePolled};
+ghost use Rattle.service_laws.specs.Members.{EachMemberAnswersAtItsPlace};
 ghost use Rattle.service_laws.specs.Onward.{WhatGoesOnIsAnsweredThere, WhatGoesOnSaysAll};
 ghost use Rattle.service_laws.specs.Peers.{AnAnswerIsThePeers, TheRequestIsAnsweredThere};
 ghost use Rattle.service_laws.specs.Peers.{WhatBindsToNothingIsRefusedThere};
 ghost use Rattle.service_laws.specs.Peers.{WhatIsNoMessageIsRefusedThere};
 ghost use Rattle.service_laws.specs.Repeating.{EachReplyRepeatsTheIdentifier};
 ghost use Rattle.service_laws.specs.Repeating.{RepliesToFormsAreOfKinds};
+ghost use Rattle.service_laws.specs.Repeating.{TheRulesKeepTheIdentifier};
 ghost use Rattle.service_laws.specs.SentOn.{WhatIsSentOnCanStandInHead};
 ghost use Rattle.service_laws.specs.SentOn.{WhatIsSentOnIsAnsweredOrRefused};
 ghost use Rattle.desk_replies.specs.Replies.{TheLinkTellsAllThatIsCarried};
@@ -48,6 +51,7 @@ pub fn a_connection_shows_and_changes_by_grant_alone()
 pub fn each_reply_repeats_the_identifier()
     ensures repeats { EachReplyRepeatsTheIdentifier }
     ensures kinds { RepliesToFormsAreOfKinds }
+    ensures rules { TheRulesKeepTheIdentifier }
 {}
 
 /// The answer of a link that is the talk of another CSE with the bytes of a request is what the
@@ -93,15 +97,25 @@ pub fn what_is_sent_on_is_answered_or_refused()
     ensures { WhatIsSentOnIsAnsweredOrRefused }
 {}
 
-/// The replies to a stream are settled by the entity, the stream and the readings.
+/// The replies to a stream are settled by the entity, the stream, the readings and the rule.
 pub fn a_stream_is_answered_in_one_way()
     ensures { IsAnsweredInOneWay }
 {}
 
-/// To one originator a stream of its requests is answered by what it sees of the entity, where none of
-/// them polls, up to and with the first that names policies or rules. Where no Retrieve has an address
-/// with the segment of a poll point, none polls.
+/// By whatever rule, to one originator a stream is answered by what it sees of the entity, where each
+/// question is its own and none of them polls, up to and with the first that names policies or rules.
+/// Where no Retrieve that was heard has an address with the segment of a poll point, none polls; and
+/// the requests that were heard tell whose each question is, and whether it names policies or rules.
 pub fn equal_sights_are_served_alike()
     ensures alike { EqualSightsAreServedAlike }
     ensures unpolled { WithoutTheSegmentNonePolled }
+    ensures heard { WhatIsHeardTellsWhoAsks }
+    ensures rules { TheRulesPollNoneBehind }
+    ensures asks { TheRulesAskForTheOriginator }
+{}
+
+/// Each entry of the reply to a fan-out is what the originator gets from that member alone at its
+/// place, in the order of `mid`: also from a member at another CSE.
+pub fn each_member_answers_at_its_place()
+    ensures { EachMemberAnswersAtItsPlace }
 {}

@@ -1,11 +1,12 @@
 use Rattle.std.proofs.Common.{sym}
 use denote.Param.Send.{sendable}
 use Rattle.cse_cli.proofs.EntitiesSent.{served_tree_send}
+use Rattle.remote_members.proofs.Shared.{service_sync}
 use Rattle.cse_cli.proofs.serve.serve_bound.Goals as goal
 
 -- each connection was attended to as HTTP
 pub returns-in-Http-clause-serves : goal.returns-in-Http-clause-serves
-returns-in-Http-clause-serves g c = rw (c.in-Http.is, sym c.benches_for-benches.ensures.front) c.serve_at_desk.ensures.serves
+returns-in-Http-clause-serves g c = rw (c.in-Http.is, sym c.benches_for-benches.ensures.front, sym c.new-binding.ensures) c.serve_at_desk.ensures.serves
 
 -- each was as a WebSocket
 pub returns-in-Ws-clause-serves : goal.returns-in-Ws-clause-serves
@@ -14,6 +15,10 @@ returns-in-Ws-clause-serves g c = rw (c.in-Ws.is, sym c.benches_for-benches.ensu
 -- an entity goes from thread to thread
 pub serve_at_desk-requires-send-O : goal.serve_at_desk-requires-send-O
 serve_at_desk-requires-send-O g c κs within = search (sendable, served_tree_send)
+
+-- threads share the service, which holds a home
+pub serve_at_desk-requires-sync-P : goal.serve_at_desk-requires-sync-P
+serve_at_desk-requires-sync-P g c κs within = search (sendable, service_sync)
 
 pub serve_at_desk-requires-in-Ws-send-O : goal.serve_at_desk-requires-in-Ws-send-O
 serve_at_desk-requires-in-Ws-send-O g c κs within = search (sendable, served_tree_send)

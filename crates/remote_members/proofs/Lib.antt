@@ -1,0 +1,4 @@
+pub mod RemoteLemmas
+pub mod AskLemmas
+pub mod WideLemmas
+pub mod Shared
