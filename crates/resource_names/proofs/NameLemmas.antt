@@ -2,18 +2,13 @@
 use Rattle.std.specs.Prelude.{◌==◌, nat_eq, option_and_then}
 use Rattle.std.proofs.Common.{◌≡◌, ℕ, ◌⊎◌, List, [], ◌∷◌, ◌++◌, Bool, true, false, cond, ◌&&◌, Option, Some, None, Result, Ok, Err, OnOk, OnErr, option_map, pos, inl, inr, refl, sym, ap, ◌∙◌, subst}
 use Rattle.std.proofs.lemmas.Bool.{cases_Bool, and_parts, and_from, or_left, or_right, eq-eqb, eqb-true, both_ways}
-use Rattle.std.proofs.lemmas.Map.Text.{is_eq-slice_cmp}
 use Rattle.std.proofs.lemmas.Option.{same_Some}
 use Rattle.std.proofs.lemmas.Slice.Eq.{bytes_eq-Decides}
-use Rattle.std.specs.BTreeMap as sorted
-use Rattle.std.specs.BTreeMap.{BTreeMap}
-use Rattle.std.specs.Cmp.{eq_by_cmp_equiv}
-use Rattle.std.specs.Cmp.Lexicographic.{slice_cmp, nat_list_cmp_total, nat_list_eq_equiv}
-use Rattle.std.specs.HashMap.{HashMap, get}
+use Rattle.std.specs.Cmp.Lexicographic.{nat_list_eq_equiv}
+use Rattle.std.specs.HashMap.{HashMap, get, get_by, UpdatesBy}
 use Rattle.std.specs.List.{filter, find, list_any, slice_get}
 use Rattle.std.specs.Map.{lookup, IsKeyTest, AreApart, KeepsOthers}
 use Rattle.std.specs.Option.{option_map_or, option_or}
-use Rattle.std.specs.Ordering.{nat_cmp, is_eq}
 use Rattle.std.specs.Str.{bytes_eq}
 use Rattle.std.specs.declared.vec.Vec.{Vec}
 use Rattle.m2m_value.proofs.Lookup.{bytes_eq_itself}
@@ -37,22 +32,19 @@ use Rattle.resource_names.specs.declared.named.Named.{Named}
 apart : (bs cs ks : List ℕ) → bytes_eq bs cs ≡ false → bytes_eq bs ks ≡ true → bytes_eq cs ks ≡ false
 apart bs cs ks n y = nat_list_eq_equiv.symm cs ks ∙ sym (nat_list_eq_equiv.congr bs ks cs y) ∙ n
 
-apart_in_order : (bs cs ks : List ℕ) → bytes_eq bs cs ≡ false → is_eq (slice_cmp nat_cmp bs ks) ≡ true → is_eq (slice_cmp nat_cmp cs ks) ≡ false
-apart_in_order bs cs ks n y = is_eq-slice_cmp cs ks ∙ apart bs cs ks n (sym (is_eq-slice_cmp bs ks) ∙ y)
-
 other_entries : {K X : Type 0} (eq : K → K → Bool) (test : K → Bool) (old new : List (K × X)) → KeepsOthers eq test old new → (other : K → Bool) → IsKeyTest eq other → AreApart test other → lookup other new ≡ lookup other old
 unfolding KeepsOthers
 other_entries eq test old new h = h
 
 -- what a map with keys that are seen as bytes has at any bytes, once it was changed at some
-module _ {V X : Type 0} (bytes : V → List ℕ) where
-  abbrev pub by_bytes : List ℕ → BTreeMap V X → Option X
-  by_bytes bs m = sorted.get_by (λ k. slice_cmp nat_cmp bs (bytes k)) m
+module _ {V X S : Type 0} (bytes : V → List ℕ) where
+  abbrev pub by_bytes : List ℕ → HashMap V X S → Option X
+  by_bytes bs m = get_by (λ k. bytes_eq bs (bytes k)) m
 
-  pub updated : (bs : List ℕ) (m n : BTreeMap V X) (w : Option X) → sorted.UpdatesBy (λ x y. slice_cmp nat_cmp (bytes x) (bytes y)) (λ k. slice_cmp nat_cmp bs (bytes k)) m n w → (cs : List ℕ) → by_bytes cs n ≡ cond (bytes_eq bs cs) w (by_bytes cs m)
+  pub updated : (bs : List ℕ) (m n : HashMap V X S) (w : Option X) → UpdatesBy (λ x y. bytes_eq (bytes x) (bytes y)) (λ k. bytes_eq bs (bytes k)) m n w → (cs : List ℕ) → by_bytes cs n ≡ cond (bytes_eq bs cs) w (by_bytes cs m)
   updated bs m n w h cs = elim (cases_Bool (bytes_eq bs cs)) [
     | inl t ↦ rw t (subst (λ (ds : List ℕ). by_bytes ds n ≡ w) ((bytes_eq-Decides bs cs).0 t) h.1)
-    | inr f ↦ rw f (other_entries _ _ _ _ h.3 _ (λ x y. (eq_by_cmp_equiv nat_list_cmp_total).congr cs (bytes x) (bytes y)) (λ k. apart_in_order bs cs (bytes k) f))
+    | inr f ↦ rw f (other_entries _ _ _ _ h.3 _ (λ x y. nat_list_eq_equiv.congr cs (bytes x) (bytes y)) (λ k. apart bs cs (bytes k) f))
   ]
 
 -- the bytes of a key

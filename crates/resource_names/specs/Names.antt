@@ -1,11 +1,9 @@
 -- Numbers by names, and which resources of a list their names find.
 use Rattle.std.specs.Prelude.{◌≡◌, ℕ, nat_eq, List, Bool, false, drop, Option, Some, None}
 use Rattle.std.specs.Prelude.{option_and_then, if◌then◌else◌}
-use Rattle.std.specs.BTreeMap.{get_by}
-use Rattle.std.specs.Cmp.Lexicographic.{slice_cmp}
-use Rattle.std.specs.HashMap.{HashMap, get}
+use Rattle.std.specs.HashMap.{HashMap, get, get_by}
 use Rattle.std.specs.Option.{option_map_or}
-use Rattle.std.specs.Ordering.{nat_cmp}
+use Rattle.std.specs.Str.{bytes_eq}
 use Rattle.m2m_names.specs.Ids.{number_written, word_len}
 use Rattle.resource_model.specs.Resource.{ResourceData, ae_id, cse_id}
 use Rattle.tree_model.specs.Tree.{at}
@@ -14,7 +12,7 @@ use Rattle.resource_names.specs.declared.named.Named.{Named}
 
 -- the number that a table has for a name
 abbrev pub number_by : List ℕ → Names → Option ℕ
-number_by name names = get_by (λ k. slice_cmp nat_cmp name k.items) names.numbers
+number_by name names = get_by (λ k. bytes_eq name k.items) names.numbers
 
 -- the number that the table of a parent has for a name
 abbrev pub named_at : {S : Type 0} → HashMap ℕ Names S → ℕ → List ℕ → Option ℕ

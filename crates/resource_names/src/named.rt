@@ -39,8 +39,8 @@ impl Named {
     {
         Named {
             children: NumberMap::with_hasher(alloc, seeded),
-            aes: Names::new(alloc),
-            cses: Names::new(alloc),
+            aes: Names::new(alloc, seeded),
+            cses: Names::new(alloc, seeded),
         }
     }
 
@@ -209,7 +209,7 @@ fn add_name(
     if let Some(names) = children.get_mut(&parent) {
         return names.add(alloc, name, number);
     }
-    let mut names = Names::new(alloc);
+    let mut names = Names::new(alloc, *children.hasher());
     names.add(alloc, name, number)?;
     children.insert(parent, names)?;
     Ok(())

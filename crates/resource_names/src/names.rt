@@ -4,26 +4,27 @@ ghost use Rattle.std.specs.Str.{bytes_eq};
 ghost use Rattle.tree_model.specs.Tree.{has};
 ghost use Rattle.resource_names.specs.Names.{number_by};
 
-use resource_store::Store;
+use indexmap::IndexMap;
+use resource_store::{Seeded, Store};
 use std::alloc::{AllocError as OutOfMemory, Global};
-use std::collections::BTreeMap;
 
-/// Numbers by names, in the order of the names: whichever names a client chooses, a look-up
-/// compares a name with few others. A name whose resource has gone may stay for a while.
+/// Numbers by names, in the order in which the names came. Which names fall together hangs on the
+/// seed, so that a client can't choose names that are slow to find. A name whose resource has gone
+/// may stay for a while; given again meanwhile, it keeps its place.
 #[derive(Drop)]
 pub(crate) struct Names {
-    pub(crate) numbers: BTreeMap<Vec<u8>, u64>,
+    pub(crate) numbers: IndexMap<Vec<u8>, u64, Seeded>,
     // How many resources have gone since the names of those were let go.
     gone: usize,
 }
 
 impl Names {
     /// No name; it takes no memory.
-    pub(crate) fn new(alloc: Global) -> Names
+    pub(crate) fn new(alloc: Global, seeded: Seeded) -> Names
         ensures { (name : List ℕ) → number_by name result ≡ None }
     {
         Names {
-            numbers: BTreeMap::new(alloc),
+            numbers: IndexMap::with_hasher(alloc, seeded),
             gone: 0,
         }
     }

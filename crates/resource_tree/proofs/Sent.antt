@@ -7,8 +7,7 @@ use Rattle.resource_dues.specs.contracts.dues.Dues as dues
 use Rattle.resource_tree.specs.contracts.index_tree.IndexTree as index_tree
 use Rattle.resource_tree.specs.contracts.index_tree.IndexTree.TheInside as index_tree_inside
 use Rattle.resource_tree.specs.contracts.kin.Kin as kin
-use Rattle.resource_names.specs.contracts.named.Named as named
-use Rattle.resource_names.specs.contracts.names.Names as names
+use Rattle.resource_names.proofs.Sent.{named_send}
 use Rattle.resource_store.specs.contracts.store.Store as store
 use Rattle.resource_tree.specs.contracts.queue.Queue as queue
 use Rattle.resource_tree.specs.contracts.queue.Queue.TheInside as queue_inside
@@ -21,12 +20,6 @@ queue_send = record { owned = λ d vs x. (queue_inside_send.owned x.0 vs, tt); l
 
 kin_send : IsSend kin.the_row
 kin_send = search (sendable, crosses, maps.crosses, queue_send) depth 60 fits 5000
-
-names_send : IsSend names.the_row
-names_send = search (sendable, crosses, maps.crosses) depth 60 fits 5000
-
-named_send : IsSend named.the_row
-named_send = search (sendable, crosses, maps.crosses, names_send) depth 60 fits 5000
 
 dues_send : IsSend dues.the_row
 dues_send = search (sendable, crosses, maps.crosses) depth 60 fits 5000
