@@ -332,14 +332,17 @@ sound_taken p e sound =
     (all_without p (is_waiting e.last) e.items sound.waiting)
     (order_without p e.items sound.moments)
 
+-- nothing is due at the last moment
+pub all_still_live : (e : EntityData) → IsSoundEntity e → live e.last e.nodes ≡ e.nodes
+all_still_live e sound = without_none (is_due e.nodes e.last) e.nodes (tree_from_well_formed e.nodes sound.tree) sound.due
+
 -- where no time passes, nothing is due
 pub expired_still : (reading : ℕ) (e : EntityData) → IsSoundEntity e → cut reading ≤ e.last → expired (event_moment e.last reading) e ≡ e
 expired_still reading e sound early =
     let entity : List ResourceData → ℕ → List Item → EntityData = λ nodes last items. record e { nodes = nodes; last = last; items = items } in
     let same : event_moment e.last reading ≡ e.last = omega arith in
-    let all : live e.last e.nodes ≡ e.nodes = without_none (is_due e.nodes e.last) e.nodes (tree_from_well_formed e.nodes sound.tree) sound.due in
     ap (λ (m : ℕ). entity (live m e.nodes) m (still_waiting m e.items)) same
-    ∙ ap (λ (nodes : List ResourceData). entity nodes e.last (still_waiting e.last e.items)) all
+    ∙ ap (λ (nodes : List ResourceData). entity nodes e.last (still_waiting e.last e.items)) (all_still_live e sound)
     ∙ ap (entity e.nodes e.last) (all_waiting e.last e.items sound.waiting)
 
 -- ---- the opening

@@ -36,6 +36,36 @@ pub fn sweep<T: Tree>(
     if moment == entity.last {
         return Ok(());
     }
+    settle(entity);
+    expire_to(alloc, entity, moment)
+}
+
+// Where the tree can't say that nothing is due at the moment of the last event, it finds anew what
+// is due next. So a lower age of a container's instances costs one pass over all resources, not two.
+fn settle<T: Tree>(entity: &mut Entity<T>)
+    ensures { entity.new ≡ entity.old }
+{
+    find_dues(&mut entity.tree, entity.last);
+}
+
+fn find_dues<T: Tree>(tree: &mut T, last: u64)
+    requires { live last (T.nodes tree.old) ≡ T.nodes tree.old }
+    ensures { T.nodes tree.new ≡ T.nodes tree.old }
+{
+    if tree.quiet_until() <= last {
+        tree.expire(last);
+    }
+}
+
+// A moment comes: what is due goes and is told, where anything is, and what has waited the keeping
+// time goes.
+fn expire_to<T: Tree>(alloc: Global, entity: &mut Entity<T>, moment: u64) -> Result<(), OutOfMemory>
+    requires later { entity.old.last ≤ moment }
+    requires last { moment ≤ last_reading }
+    ensures ok { OnOk result (entity.new ≡ expired_told moment entity.old) }
+    ensures err { OnErr result (entity.new ≡ entity.old) }
+    ensures memory { OnErr result (IsTrue (is_some_due entity.old.nodes moment)) }
+{
     let gone = entity.tree.due_numbers(alloc, moment)?;
     if gone.entries().is_empty() {
         pass(entity, moment);

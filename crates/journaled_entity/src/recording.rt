@@ -107,6 +107,13 @@ fn is_ticked(outcome: Outcome) -> bool
     ticked
 }
 
+/// Lets go what came of a step that can't be kept. It stands apart, as each part of all that may
+/// come is looked at here.
+#[inline(never)]
+fn let_go(observed: ObservedStep) {
+    drop(observed);
+}
+
 /// Memory ran out.
 fn starved() -> KeptOutcome
     ensures { result ≡ outcomes.OfMachine (Starved 0) }
@@ -175,15 +182,18 @@ impl<T: Tree> Journaled<T> {
     {
         let (observed, differs) = self.advance(reading, event);
         if is_cut_short(&observed.outcome) {
+            let_go(observed);
             return None;
         }
         let may = may_change(event, &observed);
         if may {
+            let_go(observed);
             return None;
         }
         if push_expiry(self.alloc(), lines, moment, differs) {
             Some(observed.outcome)
         } else {
+            let_go(observed);
             None
         }
     }
@@ -212,6 +222,7 @@ impl<T: Tree> Journaled<T> {
     {
         let (observed, differs) = self.advance(reading, event);
         if is_cut_short(&observed.outcome) {
+            let_go(observed);
             return None;
         }
         if may_change(event, &observed) {
@@ -221,6 +232,7 @@ impl<T: Tree> Journaled<T> {
         if push_expiry(self.alloc(), lines, moment, differs) {
             Some(observed.outcome)
         } else {
+            let_go(observed);
             None
         }
     }
