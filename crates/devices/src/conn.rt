@@ -107,7 +107,7 @@ fn with_reason(alloc: Global, line: String, why: Option<String>) -> Result<Strin
 }
 
 /// The request that a payload is.
-fn request_in(alloc: Global, payload: &[u8]) -> Option<Request> {
+fn payload_request(alloc: Global, payload: &[u8]) -> Option<Request> {
     match read(alloc, payload) {
         Ok(value) => request_from(alloc, value).ok(),
         Err(_) => None,
@@ -558,7 +558,7 @@ impl<R: Clock + Eprint + Copy> ReplyObserver for TcpConn<R> {
             figures.reply(rsc.number() as u64 / 1_000);
         }
         if self.log.has_requests() {
-            let request = request_in(self.log.allocator(), payload);
+            let request = payload_request(self.log.allocator(), payload);
             if let Ok(line) = self.line_for_payload(payload, request, rsc) {
                 self.log.tell(line.as_str());
             }

@@ -99,6 +99,14 @@ fn accept_fault_of(error: &io::Error) -> AcceptFault {
     }
 }
 
+/// The port that a listening socket has, if the system tells it.
+fn port_of(listener: &TcpListener) -> Option<u16> {
+    match listener.local_addr() {
+        Ok(address) => Some(address.port()),
+        Err(_) => None,
+    }
+}
+
 /// Why a door can't be opened, in words.
 fn reason(error: &io::Error) -> &'static str {
     match error.kind() {
@@ -141,10 +149,16 @@ impl<R: Net<Listener = TcpListener, Stream = TcpStream> + Clock + Eprint + Copy>
         }
     }
 
-    fn say_open(&self, at: &[u8]) {
+    /// Says where it listens. At port 0 that is the port that the system has chosen.
+    fn say_open(&self, at: &[u8], port: Option<u16>) {
         let at = str::from_utf8(at).unwrap_or("");
         let whom = self.whom.as_str();
-        if let Ok(text) = format!(in self.log.allocator(); "listening at {at} as {whom}") {
+        let alloc = self.log.allocator();
+        let text = match (at.strip_suffix(":0"), port) {
+            (Some(host), Some(port)) => format!(in alloc; "listening at {host}:{port} as {whom}"),
+            _ => format!(in alloc; "listening at {at} as {whom}"),
+        };
+        if let Ok(text) = text {
             self.log.say(text.as_str());
         }
     }
@@ -225,12 +239,13 @@ where
         match self.bound(at) {
             Ok(listener) => {
                 self.log.doorway().open(&listener);
+                let port = port_of(&listener);
                 self.listener = Some(listener);
                 match Vec::from_slice(self.log.allocator(), at) {
                     Ok(at) => self.address = Some(at),
                     Err(_) => self.is_silent = true,
                 }
-                self.say_open(at);
+                self.say_open(at, port);
                 Ok(())
             }
             Err(error) => {

@@ -7,7 +7,7 @@ ghost use Rattle.m2m_io.specs.Sides.{no_side};
 use m2m_io::{Failed, Sink, Source};
 use std::alloc::AllocError;
 use std::env;
-use std::io::{Read, Write};
+use std::io::{ErrorKind, Read, Write};
 use std::rt::Env;
 
 /// A reader of std as a source. Each error of the reader is a fault.
@@ -104,10 +104,11 @@ impl<W: Write> Sink for StdOut<W> {
 }
 
 /// The words behind the program's name; none where they can't be read, as where one of them isn't
-/// UTF-8. What the system hands in isn't stated.
+/// UTF-8. Where memory runs out in copying them, it says so. What the system hands in isn't stated.
 pub fn words<R: Env + AllocGlobal>(rt: &R) -> Result<Vec<String>, AllocError> {
     match env::args(rt) {
         Ok(args) => args.skip(1).collect(rt.alloc()),
+        Err(error) if error.kind() == ErrorKind::OutOfMemory => Err(AllocError),
         Err(_) => Ok(Vec::new(rt.alloc())),
     }
 }

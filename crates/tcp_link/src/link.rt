@@ -16,7 +16,8 @@ use m2m_io::{Link, LinkFault};
 use primitive_json::Request;
 use service_observer::ItemObserver;
 use std::alloc::{AllocError, Global};
-use std::io::Eprint;
+use std::io;
+use std::io::{Eprint, ErrorKind};
 use std::net::{Net, TcpListener, TcpStream};
 use std::time::Clock;
 
@@ -191,9 +192,12 @@ impl<R: Clock + Eprint + Copy> TcpLink<R> {
     }
 }
 
-/// Why a host isn't found: it is as good as mute where the look-up took as long as a connection
-/// may.
-fn fault_of_lookup<R: Clock>(rt: &R, begun: u64, pace: Pace) -> ExchangeFault {
+/// Why a host isn't found, where the look-up fails so: it is as good as mute where that took as long
+/// as a connection may.
+fn fault_of_lookup<R: Clock>(rt: &R, error: &io::Error, begun: u64, pace: Pace) -> ExchangeFault {
+    if error.kind() == ErrorKind::OutOfMemory {
+        return ExchangeFault::OutOfMemory;
+    }
     match time_left(rt, begun, pace.of_a_step()) {
         Some(_) => ExchangeFault::Refused,
         None => ExchangeFault::Mute,
@@ -213,8 +217,9 @@ where
     ensures { IfOk result HasFew }
 {
     let asked = millis_now(&rt);
-    let Ok(found) = addresses(&rt, alloc, host_port) else {
-        return Err(fault_of_lookup(&rt, asked, pace));
+    let found = match addresses(&rt, alloc, host_port) {
+        Ok(found) => found,
+        Err(error) => return Err(fault_of_lookup(&rt, &error, asked, pace)),
     };
     let begun = millis_now(&rt);
     match connected(&rt, &found, begun, pace.of_a_step()) {

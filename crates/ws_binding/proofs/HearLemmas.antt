@@ -24,7 +24,7 @@ use Rattle.desk_replies.specs.Asking.{Asked, nothing_asked}
 use Rattle.desk_replies.specs.Rule.{IsAnswered, ReplyRule}
 use Rattle.desk_replies.proofs.AskingLemmas.{answered_as, answered_none, answered_one, begun_one, has_asked_nothing}
 use Rattle.cse_server.specs.Talk.{malformed}
-use Rattle.ws_binding.specs.Payloads.{echo_of, id_among, id_of, id_text, reply_for, request_in, requests_in}
+use Rattle.ws_binding.specs.Payloads.{echo_of, id_among, id_of, id_text, payload_request, payload_requests, reply_for}
 use Rattle.ws_binding.specs.Way.{Hears}
 
 -- ---- the identifier of a request
@@ -53,20 +53,20 @@ id_is_rqi d r e =
 
 -- ---- the reply to a payload
 
-requests_in-one : (payload : List ℕ) (request : RequestParts) → request_in payload ≡ Some request → requests_in (payload ∷ []) ≡ request ∷ []
-requests_in-one payload request e = ap (λ (o : Option RequestParts). cons_option o []) e
+payload_requests-one : (payload : List ℕ) (request : RequestParts) → payload_request payload ≡ Some request → payload_requests (payload ∷ []) ≡ request ∷ []
+payload_requests-one payload request e = ap (λ (o : Option RequestParts). cons_option o []) e
 
-requests_in-none : (payload : List ℕ) → request_in payload ≡ None → requests_in (payload ∷ []) ≡ []
-requests_in-none payload e = ap (λ (o : Option RequestParts). cons_option o []) e
+payload_requests-none : (payload : List ℕ) → payload_request payload ≡ None → payload_requests (payload ∷ []) ≡ []
+payload_requests-none payload e = ap (λ (o : Option RequestParts). cons_option o []) e
 
-reply_for-one : (payload : List ℕ) (request : RequestParts) (reply : ReplyParts) → request_in payload ≡ Some request
-    → reply_for payload (request_in payload) (reply ∷ []) ≡ reply
+reply_for-one : (payload : List ℕ) (request : RequestParts) (reply : ReplyParts) → payload_request payload ≡ Some request
+    → reply_for payload (payload_request payload) (reply ∷ []) ≡ reply
 reply_for-one payload request reply e = ap (λ (o : Option RequestParts). reply_for payload o (reply ∷ [])) e
 
 module _ {S : Type 0} (rule : ReplyRule) (grown : S → List (Marked Event Outcome) → S → Type 0) where
   -- a payload that is a request was asked
   pub heard_one : {E : Type 0} (before after : S) (given now : Option (List ℕ)) (told more : LinkTold) (payload : List ℕ) (request : RequestParts)
-      → request_in payload ≡ Some request → (result : Result ReplyParts E) → Answers rule grown before after given now told more request result
+      → payload_request payload ≡ Some request → (result : Result ReplyParts E) → Answers rule grown before after given now told more request result
       → Hears rule grown before after given now told more payload result
   heard_one before after given now told more payload request some (Ok reply) by = record {
     heard = payload ∷ [];
@@ -74,8 +74,8 @@ module _ {S : Type 0} (rule : ReplyRule) (grown : S → List (Marked Event Outco
     asks = record {
       asked = by.asked;
       asks = by.asks;
-      answers = answered_as rule (request ∷ []) (requests_in (payload ∷ [])) by.asked
-          (answered_one rule request by.asked by.answers.0 by.answers.1 by.answers.2 by.answers.3) (sym (requests_in-one payload request some));
+      answers = answered_as rule (request ∷ []) (payload_requests (payload ∷ [])) by.asked
+          (answered_one rule request by.asked by.answers.0 by.answers.1 by.answers.2 by.answers.3) (sym (payload_requests-one payload request some));
     };
     replied = (refl, refl, by.answers.4 ∙ sym (reply_for-one payload request _ some));
   }
@@ -96,8 +96,8 @@ module _ {S : Type 0} (rule : ReplyRule) (grown : S → List (Marked Event Outco
       asks = record {
         asked = by.asked;
         asks = by.asks;
-        answers = answered_as rule (request ∷ []) (requests_in (payload ∷ [])) by.asked
-            (begun_one rule request by.asked front.0 front.1 front.2 front.3) (sym (requests_in-one payload request some));
+        answers = answered_as rule (request ∷ []) (payload_requests (payload ∷ [])) by.asked
+            (begun_one rule request by.asked front.0 front.1 front.2 front.3) (sym (payload_requests-one payload request some));
       };
       replied = tt;
     }
@@ -105,7 +105,7 @@ module _ {S : Type 0} (rule : ReplyRule) (grown : S → List (Marked Event Outco
 
   module _ (nothing : (seat : S) → grown seat [] seat) where
     -- a payload that is none was refused
-    pub heard_none : {E : Type 0} (seat : S) (given : Option (List ℕ)) (told : LinkTold) (payload : List ℕ) → request_in payload ≡ None
+    pub heard_none : {E : Type 0} (seat : S) (given : Option (List ℕ)) (told : LinkTold) (payload : List ℕ) → payload_request payload ≡ None
         → (reply : ReplyParts) → reply ≡ malformed (echo_of payload) → Hears {E = E} rule grown seat seat given given told told payload (Ok reply)
     heard_none seat given told payload none reply is = record {
       heard = payload ∷ [];
@@ -113,7 +113,7 @@ module _ {S : Type 0} (rule : ReplyRule) (grown : S → List (Marked Event Outco
       asks = record {
         asked = nothing_asked;
         asks = has_asked_nothing grown nothing seat given told;
-        answers = answered_as rule [] (requests_in (payload ∷ [])) nothing_asked (answered_none rule) (sym (requests_in-none payload none));
+        answers = answered_as rule [] (payload_requests (payload ∷ [])) nothing_asked (answered_none rule) (sym (payload_requests-none payload none));
       };
       replied = (refl, refl, is ∙ sym (ap (λ (o : Option RequestParts). reply_for payload o []) none));
     }

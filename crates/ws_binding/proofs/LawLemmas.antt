@@ -8,8 +8,8 @@ use Rattle.desk_replies.specs.Replies.{GivesReplies}
 use Rattle.desk_replies.specs.Rule.{plainly}
 use Rattle.desk_replies.proofs.PlainLemmas.{plain_asked}
 use Rattle.ws_binding.specs.Laws.{AClosedTalkHasAllThatWasToCome, IsTalkOf}
-use Rattle.ws_binding.specs.Payloads.{requests_in, said_to}
-use Rattle.ws_binding.specs.Talk.{Talks}
+use Rattle.ws_binding.specs.Payloads.{payload_requests, said_to}
+use Rattle.ws_binding.specs.Talk.{AnswersPayloads}
 use Rattle.ws_binding.specs.Talker.{talk_told}
 use Rattle.ws_binding.specs.declared.talk.TalkEnded.TheVariants.{Closed}
 
@@ -30,13 +30,13 @@ heard_is most to_come heard unheard left come none few ends =
 
 talk_of : (most : ℕ) (asked : Asked) (to_come left said_before said_now : List (List ℕ))
     → GivesReplies asked.requests asked.outcomes asked.replies asked.carried
-    → Talks most plainly asked (talk_told (Some to_come) (Some said_before)) (talk_told (Some left) (Some said_now)) Closed
+    → AnswersPayloads most plainly asked (talk_told (Some to_come) (Some said_before)) (talk_told (Some left) (Some said_now)) Closed
     → IsTalkOf (take most to_come) asked said_before said_now
 talk_of most asked to_come left said_before said_now gives talks =
     let none = talks.says.0 in
     let heard = heard_is most to_come talks.heard talks.unheard left talks.taken none talks.few (talks.closed refl) in
-    let plain = plain_asked (requests_in talks.heard) asked talks.answers in
-    let requests = plain.0 ∙ ap (λ (v : List (List ℕ)). requests_in v) (sym heard) in
+    let plain = plain_asked (payload_requests talks.heard) asked talks.answers in
+    let requests = plain.0 ∙ ap (λ (v : List (List ℕ)). payload_requests v) (sym heard) in
     record {
       said = said_to talks.heard talks.answers.replies;
       said_now_is = talks.says.1;

@@ -1,5 +1,5 @@
 -- Payloads and what is said to them, joined.
-use Rattle.std.proofs.Common.{◌≡◌, ℕ, List, [], ◌∷◌, ◌++◌, length, map, Option, Some, None, inl, inr, refl, sym, ap, ◌∙◌, arith, append_assoc, append-nil}
+use Rattle.std.proofs.Common.{◌≡◌, ℕ, List, [], ◌∷◌, ◌++◌, length, map, Option, Some, None, inl, inr, refl, sym, ap, ◌∙◌, append_assoc, append-nil}
 use Rattle.std.specs.List.{cons_option}
 use Rattle.std.proofs.lemmas.List.{map-append}
 use Rattle.std.proofs.lemmas.List.Elements.{filter_map-append}
@@ -7,50 +7,35 @@ use Rattle.m2m_io.specs.Told.{TellsStill}
 use Rattle.primitive_json.specs.declared.reply.ReplyParts.{ReplyParts}
 use Rattle.primitive_json.specs.declared.request.RequestParts.{RequestParts}
 use Rattle.desk_replies.proofs.LinkLemmas.{Tells-append}
-use Rattle.ws_binding.specs.Payloads.{request_in, requests_in, reply_for, replies_behind, replies_to, reply_payload, said_to}
+use Rattle.cse_server.specs.Talk.{replies_behind}
+use Rattle.cse_server.proofs.TalkLemmas.{behind_append, behind_length, none_left, some_left}
+use Rattle.ws_binding.specs.Payloads.{payload_request, payload_requests, reply_for, replies_to, reply_payload, said_to}
 use Rattle.ws_binding.specs.Talk.{Says, SaysAllButLast, SaysMost}
 use Rattle.ws_binding.specs.Talker.{SaysAll, Takes}
 use Rattle.ws_binding.specs.declared.talk.TalkEnded.{TalkEnded}
 use Rattle.ws_binding.specs.declared.talk.TalkEnded.TheVariants.{Closed, Failed, Memory}
 
-none_left : (q : RequestParts) (rest : List RequestParts) → length {A = ReplyParts} [] ≡ length (q ∷ rest) → ⊥
-none_left q rest e = omega (arith, e)
-
-some_left : (o : ReplyParts) (rs : List ReplyParts) → length (o ∷ rs) ≡ 0 → ⊥
-some_left o rs e = omega (arith, e)
-
 -- ---- requests and replies
 
-pub requests_in-append : (xs ys : List (List ℕ)) → requests_in (xs ++ ys) ≡ requests_in xs ++ requests_in ys
-requests_in-append xs ys = filter_map-append request_in xs ys
-
--- as many replies as requests are used up by them
-behind_append : (r : Option RequestParts) (rest : List RequestParts) (rs more : List ReplyParts) → length rs ≡ length (cons_option r rest) → replies_behind r (rs ++ more) ≡ replies_behind r rs ++ more
-behind_append None rest rs more same = refl
-behind_append (Some q) rest [] more same = absurd (none_left q rest same)
-behind_append (Some q) rest (o ∷ rs) more same = refl
-
-behind_length : (r : Option RequestParts) (rest : List RequestParts) (rs : List ReplyParts) → length rs ≡ length (cons_option r rest) → length (replies_behind r rs) ≡ length rest
-behind_length None rest rs same = same
-behind_length (Some q) rest [] same = absurd (none_left q rest same)
-behind_length (Some q) rest (o ∷ rs) same = omega (arith, same)
+pub payload_requests-append : (xs ys : List (List ℕ)) → payload_requests (xs ++ ys) ≡ payload_requests xs ++ payload_requests ys
+payload_requests-append xs ys = filter_map-append payload_request xs ys
 
 reply_same : (payload : List ℕ) (r : Option RequestParts) (rest : List RequestParts) (rs more : List ReplyParts) → length rs ≡ length (cons_option r rest) → reply_for payload r (rs ++ more) ≡ reply_for payload r rs
 reply_same payload None rest rs more same = refl
 reply_same payload (Some q) rest [] more same = absurd (none_left q rest same)
 reply_same payload (Some q) rest (o ∷ rs) more same = refl
 
-replies_to-append : (xs ys : List (List ℕ)) (rs more : List ReplyParts) → length rs ≡ length (requests_in xs) → replies_to (xs ++ ys) (rs ++ more) ≡ replies_to xs rs ++ replies_to ys more
+replies_to-append : (xs ys : List (List ℕ)) (rs more : List ReplyParts) → length rs ≡ length (payload_requests xs) → replies_to (xs ++ ys) (rs ++ more) ≡ replies_to xs rs ++ replies_to ys more
 replies_to-append [] ys [] more same = refl
 replies_to-append [] ys (o ∷ rs) more same = absurd (some_left o rs same)
 replies_to-append (x ∷ xs) ys rs more same =
-    let r = request_in x in
+    let r = payload_request x in
     let left = replies_behind r rs in
-    let again : length left ≡ length (requests_in xs) = behind_length r (requests_in xs) rs same in
-    rw (reply_same x r (requests_in xs) rs more same, behind_append r (requests_in xs) rs more same)
+    let again : length left ≡ length (payload_requests xs) = behind_length r (payload_requests xs) rs same in
+    rw (reply_same x r (payload_requests xs) rs more same, behind_append r (payload_requests xs) rs more same)
     (ap (λ v. reply_for x r rs ∷ v) (replies_to-append xs ys left more again))
 
-pub said_to-append : (xs ys : List (List ℕ)) (rs more : List ReplyParts) → length rs ≡ length (requests_in xs) → said_to (xs ++ ys) (rs ++ more) ≡ said_to xs rs ++ said_to ys more
+pub said_to-append : (xs ys : List (List ℕ)) (rs more : List ReplyParts) → length rs ≡ length (payload_requests xs) → said_to (xs ++ ys) (rs ++ more) ≡ said_to xs rs ++ said_to ys more
 said_to-append xs ys rs more same =
     ap (λ v. map reply_payload v) (replies_to-append xs ys rs more same) ∙ map-append reply_payload (replies_to xs rs) (replies_to ys more)
 

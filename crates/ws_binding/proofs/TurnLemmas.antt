@@ -10,7 +10,7 @@ use Rattle.cse_machine.specs.declared.event.Outcome.{Outcome}
 use Rattle.desk_replies.specs.Rule.{ReplyRule}
 use Rattle.desk_replies.proofs.AskingLemmas.{none_begun}
 use Rattle.desk_replies.proofs.LinkLemmas.{Tells-nil}
-use Rattle.ws_binding.specs.Payloads.{reply_payload, requests_in, said_to}
+use Rattle.ws_binding.specs.Payloads.{payload_requests, reply_payload, said_to}
 use Rattle.ws_binding.specs.Talk.{SaysAllButLast, SaysMost}
 use Rattle.ws_binding.specs.Talker.{MaySay, SaysAll}
 use Rattle.ws_binding.specs.Way.{Answers, Hears, SaysTurn, end_of}
@@ -88,7 +88,7 @@ module _ {S : Type 0} (rule : ReplyRule) (grown : S → List (Marked Event Outco
           heard = h.heard;
           either = inr (none, refl);
           asks = h.asks;
-          cut = λ begun. absurd (none_begun rule (requests_in h.heard) h.asks.asked h.asks.answers (ap (λ (v : List (List ℕ)). requests_in v) none) begun);
+          cut = λ begun. absurd (none_begun rule (payload_requests h.heard) h.asks.asked h.asks.answers (ap (λ (v : List (List ℕ)). payload_requests v) none) begun);
           said = inl (subst (λ (v : List (List ℕ)). SaysAll (said_to v replies) old old) (sym none) (Tells-nil old));
         }
   ]

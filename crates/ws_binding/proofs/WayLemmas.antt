@@ -11,13 +11,13 @@ use Rattle.desk_replies.specs.Asking.{asked_on}
 use Rattle.desk_replies.specs.Rule.{ReplyRule}
 use Rattle.desk_replies.proofs.LinkLemmas.{Tells-append, Tells-nil}
 use Rattle.desk_replies.proofs.AskingLemmas.{answered_as, answered_length, answered_none, answered_on, has_asked_nothing, has_asked_on}
-use Rattle.ws_binding.specs.Payloads.{requests_in, said_to}
+use Rattle.ws_binding.specs.Payloads.{payload_requests, said_to}
 use Rattle.ws_binding.specs.Talk.{Says, SaysAllButLast, SaysMost, ServesUpTo, most_payloads}
 use Rattle.ws_binding.specs.Talker.{NoneToCome, SaysAll, Takes, TalkTold}
 use Rattle.ws_binding.specs.Way.{Answers, AsksPayloads, Goes, SaysTurn}
 use Rattle.ws_binding.specs.declared.talk.TalkEnded.{TalkEnded}
 use Rattle.ws_binding.specs.declared.talk.TalkEnded.TheVariants.{Closed, Failed, Memory}
-use Rattle.ws_binding.proofs.TalkLemmas.{requests_in-append, said_to-append, Takes-append, Takes-still, SaysAll-none, SaysAll-behind, SaysAllButLast-then, Says-then}
+use Rattle.ws_binding.proofs.TalkLemmas.{payload_requests-append, said_to-append, Takes-append, Takes-still, SaysAll-none, SaysAll-behind, SaysAllButLast-then, Says-then}
 
 takes_none : (a : Option (List (List ℕ))) → Takes [] a a
 takes_none None = tt
@@ -203,14 +203,14 @@ module _ {S : Type 0} (rule : ReplyRule) (grown : S → List (Marked Event Outco
     asks_on before between after g g' g'' t t' t'' xs ys a all b = record {
       asked = asked_on a.asked b.asked;
       asks = has_asked_on grown on before between after g g' g'' t t' t'' a.asked b.asked a.asks b.asks;
-      answers = answered_as rule (requests_in xs ++ requests_in ys) (requests_in (xs ++ ys)) (asked_on a.asked b.asked)
-          (answered_on rule (requests_in xs) (requests_in ys) a.asked b.asked a.answers all b.answers) (sym (requests_in-append xs ys));
+      answers = answered_as rule (payload_requests xs ++ payload_requests ys) (payload_requests (xs ++ ys)) (asked_on a.asked b.asked)
+          (answered_on rule (payload_requests xs) (payload_requests ys) a.asked b.asked a.answers all b.answers) (sym (payload_requests-append xs ys));
     }
 
     said_on : (xs ys : List (List ℕ)) (before between : S) (g g' : Option (List ℕ)) (t t' : LinkTold) (a : AsksPayloads rule grown before between g g' t t' xs)
         (more : List _) → said_to xs a.answers.replies ++ said_to ys more ≡ said_to (xs ++ ys) (a.answers.replies ++ more)
     said_on xs ys before between g g' t t' a more =
-        sym (said_to-append xs ys a.answers.replies more (answered_length rule (requests_in xs) a.asked a.answers))
+        sym (said_to-append xs ys a.answers.replies more (answered_length rule (payload_requests xs) a.asked a.answers))
 
     pub Goes-then : (made : ℕ) (before between after : S) (g g' g'' : Option (List ℕ)) (t t' t'' : LinkTold) (a b c : TalkTold)
         → Goes made rule grown before between g g' t t' a b → Goes 1 rule grown between after g' g'' t' t'' b c → Goes (made + 1) rule grown before after g g'' t t'' a c

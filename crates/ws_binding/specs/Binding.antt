@@ -6,7 +6,7 @@ use Rattle.cse_machine.specs.declared.event.Event.{Event}
 use Rattle.cse_machine.specs.declared.event.Outcome.{Outcome}
 use Rattle.desk_replies.specs.Asking.{Asked}
 use Rattle.desk_replies.specs.Rule.{ReplyRule}
-use Rattle.ws_binding.specs.Talk.{ServesTalk, Talks, most_payloads}
+use Rattle.ws_binding.specs.Talk.{AnswersPayloads, ServesTalk, most_payloads}
 use Rattle.ws_binding.specs.Talker.{TalkTold, talk_told}
 use Rattle.ws_binding.specs.declared.binding.Talked.{Talked}
 use Rattle.ws_binding.specs.declared.talk.TalkEnded.{TalkEnded}
@@ -26,4 +26,5 @@ ServesSilently rule grown before after given now told more ended =
 -- may be, and what was asked is what the rule has asked for the requests among them, in order. A
 -- WebSocket doesn't tell which payloads these are, nor what was said to them.
 abbrev pub TalksWs : {X : Type 0} → ReplyRule → X → Asked → Talked X → Type 0
-TalksWs rule came asked attended = Talks most_payloads rule asked silent silent attended.ended
+TalksWs rule came asked attended =
+    AnswersPayloads most_payloads rule asked silent silent attended.ended

@@ -6,8 +6,8 @@ use Rattle.cse_machine.specs.declared.event.Outcome.{Outcome}
 use Rattle.desk_replies.specs.Asking.{Asked}
 use Rattle.desk_replies.specs.Replies.{GivesReplies}
 use Rattle.desk_replies.specs.Rule.{plainly}
-use Rattle.ws_binding.specs.Payloads.{requests_in, said_to}
-use Rattle.ws_binding.specs.Talk.{Talks, most_payloads}
+use Rattle.ws_binding.specs.Payloads.{payload_requests, said_to}
+use Rattle.ws_binding.specs.Talk.{AnswersPayloads, most_payloads}
 use Rattle.ws_binding.specs.Talker.{talk_told}
 use Rattle.ws_binding.specs.declared.talk.TalkEnded.TheVariants.{Closed}
 
@@ -17,7 +17,7 @@ use Rattle.ws_binding.specs.declared.talk.TalkEnded.TheVariants.{Closed}
 pub record WsTalk (payloads : List (List ℕ)) (outcomes : List Outcome) (carried : List Carrying)
     (said : List (List ℕ)) : Type 0 where
   pub replies : List ReplyParts
-  pub gives : GivesReplies (requests_in payloads) outcomes replies carried
+  pub gives : GivesReplies (payload_requests payloads) outcomes replies carried
   pub said_are : said ≡ said_to payloads replies
 
 -- A talk has these payloads: those among them that are requests were asked, in order, and nothing
@@ -27,7 +27,7 @@ pub record IsTalkOf (payloads : List (List ℕ)) (asked : Asked) (said_before sa
     : Type 0 where
   pub said : List (List ℕ)
   pub said_now_is : said_now ≡ said_before ++ said
-  pub asks : asked.requests ≡ requests_in payloads
+  pub asks : asked.requests ≡ payload_requests payloads
   pub talk : WsTalk payloads asked.outcomes asked.carried said
 
 -- A talk that is closed has the payloads that were to come, up to the 10,000th, where its talker
@@ -36,6 +36,6 @@ abbrev pub AClosedTalkHasAllThatWasToCome : Type 0
 AClosedTalkHasAllThatWasToCome =
     (asked : Asked) (to_come left said_before said_now : List (List ℕ))
     → GivesReplies asked.requests asked.outcomes asked.replies asked.carried
-    → Talks most_payloads plainly asked (talk_told (Some to_come) (Some said_before))
+    → AnswersPayloads most_payloads plainly asked (talk_told (Some to_come) (Some said_before))
     (talk_told (Some left) (Some said_now)) Closed
     → IsTalkOf (take most_payloads to_come) asked said_before said_now

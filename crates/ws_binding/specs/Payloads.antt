@@ -15,7 +15,7 @@ use Rattle.primitive_json.specs.Writing.{written_reply}
 use Rattle.primitive_json.specs.declared.member.Member.TheVariants.{RequestId}
 use Rattle.primitive_json.specs.declared.reply.ReplyParts.{ReplyParts}
 use Rattle.primitive_json.specs.declared.request.RequestParts.{RequestParts}
-use Rattle.cse_server.specs.Talk.{malformed}
+use Rattle.cse_server.specs.Talk.{malformed, replies_behind}
 use Rattle.ws_binding.specs.declared.payload.Heard.{Heard}
 use Rattle.ws_binding.specs.declared.payload.Heard.TheVariants.{Asks, Refused}
 
@@ -30,12 +30,12 @@ abbrev pub request_of : Data → Option RequestParts
 request_of value = result_ok (read_request value)
 
 -- the request that a payload is
-abbrev pub request_in : List ℕ → Option RequestParts
-request_in payload = option_and_then request_of (value_in payload)
+abbrev pub payload_request : List ℕ → Option RequestParts
+payload_request payload = option_and_then request_of (value_in payload)
 
 -- the requests of payloads, in order: one of each that is one
-abbrev pub requests_in : List (List ℕ) → List RequestParts
-requests_in payloads = filter_map request_in payloads
+abbrev pub payload_requests : List (List ℕ) → List RequestParts
+payload_requests payloads = filter_map payload_request payloads
 
 -- ---- the identifiers
 
@@ -70,18 +70,12 @@ reply_for payload None replies = malformed (echo_of payload)
 reply_for payload (Some request) [] = malformed (Some request.rqi)
 reply_for payload (Some request) (reply ∷ replies) = reply
 
--- the replies that are left behind it
-abbrev pub replies_behind : Option RequestParts → List ReplyParts → List ReplyParts
-replies_behind None replies = replies
-replies_behind (Some request) [] = []
-replies_behind (Some request) (reply ∷ replies) = replies
-
 -- the replies to payloads, one each, in order, the replies to the requests among them being these
 abbrev pub replies_to : List (List ℕ) → List ReplyParts → List ReplyParts
 replies_to [] replies = []
 replies_to (payload ∷ payloads) replies =
-    reply_for payload (request_in payload) replies
-    ∷ replies_to payloads (replies_behind (request_in payload) replies)
+    reply_for payload (payload_request payload) replies
+    ∷ replies_to payloads (replies_behind (payload_request payload) replies)
 
 -- a reply as a payload: its compact text (TS-0004, 8.2.2)
 abbrev pub reply_payload : ReplyParts → List ℕ

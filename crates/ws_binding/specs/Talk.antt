@@ -6,7 +6,7 @@ use Rattle.cse_machine.specs.declared.event.Event.{Event}
 use Rattle.cse_machine.specs.declared.event.Outcome.{Outcome}
 use Rattle.desk_replies.specs.Asking.{Asked, HasAsked}
 use Rattle.desk_replies.specs.Rule.{IsAnswered, ReplyRule}
-use Rattle.ws_binding.specs.Payloads.{requests_in, said_to}
+use Rattle.ws_binding.specs.Payloads.{payload_requests, said_to}
 use Rattle.ws_binding.specs.Talker.{NoneToCome, SaysAll, Takes, TalkTold}
 use Rattle.ws_binding.specs.declared.talk.TalkEnded.{TalkEnded}
 use Rattle.ws_binding.specs.declared.talk.TalkEnded.TheVariants.{Closed, Failed, Memory}
@@ -41,11 +41,11 @@ Says Memory replies (payload ∷ behind) old new = (behind ≡ []) × SaysAll re
 -- At most so many payloads were answered by this rule, what the talker told before and tells now
 -- being these: of those that were to come some were heard, and what was asked is what the rule has
 -- asked for the requests among them, in order.
-pub record Talks (most : ℕ) (rule : ReplyRule) (asked : Asked) (old new : TalkTold)
+pub record AnswersPayloads (most : ℕ) (rule : ReplyRule) (asked : Asked) (old new : TalkTold)
     (ended : TalkEnded) : Type 0 where
   pub heard : List (List ℕ)
   pub unheard : List (List ℕ)
-  pub answers : IsAnswered rule (requests_in heard) asked
+  pub answers : IsAnswered rule (payload_requests heard) asked
   pub taken : Takes (heard ++ unheard) old.to_come new.to_come
   pub few : length heard + length unheard ≤ most
   -- it is closed only where none is to come, or as many were heard as may be
@@ -63,7 +63,7 @@ pub record ServesUpTo {S : Type 0} (most : ℕ) (rule : ReplyRule)
     : Type 0 where
   pub asked : Asked
   pub asks : HasAsked grown before after given now told more asked
-  pub talks : Talks most rule asked old new ended
+  pub talks : AnswersPayloads most rule asked old new ended
 
 -- A talk was served at a seat.
 abbrev pub ServesTalk : {S : Type 0} → ReplyRule

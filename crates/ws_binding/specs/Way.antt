@@ -8,7 +8,7 @@ use Rattle.cse_machine.specs.declared.event.Event.{Event}
 use Rattle.cse_machine.specs.declared.event.Outcome.{Outcome}
 use Rattle.desk_replies.specs.Asking.{Asked, HasAsked}
 use Rattle.desk_replies.specs.Rule.{IsAnswered, ReplyRule}
-use Rattle.ws_binding.specs.Payloads.{reply_for, request_in, requests_in, said_to}
+use Rattle.ws_binding.specs.Payloads.{payload_request, payload_requests, reply_for, said_to}
 use Rattle.ws_binding.specs.Talk.{SaysAllButLast, SaysMost}
 use Rattle.ws_binding.specs.Talker.{SaysAll, Takes, TalkTold}
 use Rattle.ws_binding.specs.declared.talk.TalkEnded.{TalkEnded}
@@ -25,7 +25,7 @@ pub record AsksPayloads {S : Type 0} (rule : ReplyRule)
     : Type 0 where
   pub asked : Asked
   pub asks : HasAsked grown before after given now told more asked
-  pub answers : IsAnswered rule (requests_in payloads) asked
+  pub answers : IsAnswered rule (payload_requests payloads) asked
 
 -- A payload was heard, and asked if it is a request, and this is the reply. Where memory ran out it
 -- may be that it wasn't heard.
@@ -37,7 +37,7 @@ pub record Hears {S E : Type 0} (rule : ReplyRule)
   pub either : (heard ≡ payload ∷ []) ⊎ (heard ≡ [])
   pub asks : AsksPayloads rule grown before after given now told more heard
   pub replied : IfOk result (λ r. (heard ≡ payload ∷ []) × (asks.answers.is_whole ≡ true)
-      × (r ≡ reply_for payload (request_in payload) asks.answers.replies))
+      × (r ≡ reply_for payload (payload_request payload) asks.answers.replies))
 
 -- The talk goes on: so many payloads were answered, and the replies to all of them said.
 pub record Goes {S : Type 0} (made : ℕ) (rule : ReplyRule)

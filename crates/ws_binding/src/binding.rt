@@ -50,7 +50,7 @@ where
 {
     let mut talker = WsTalker::new(alloc, &mut *conn);
     let ended = serve_talk(alloc, desk, seat, &mut talker, clock, link, replier);
-    let _closed = talker.close();
+    let _closed = talker.close(ended);
     ended
 }
 

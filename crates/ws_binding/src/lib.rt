@@ -13,6 +13,7 @@ mod binding;
 mod laws;
 mod memory;
 mod payload;
+mod room;
 mod socket;
 mod stream;
 mod subprotocol;

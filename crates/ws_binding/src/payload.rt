@@ -77,7 +77,7 @@ pub(crate) fn hear_payload(
     scratch: &mut Scratch,
     payload: &[u8],
 ) -> Result<Heard, OutOfMemory>
-    ensures { IfOk result (IsHeard (spec.request_in payload.now) (spec.echo_of payload.now)) }
+    ensures { IfOk result (IsHeard (spec.payload_request payload.now) (spec.echo_of payload.now)) }
 {
     match read_in(alloc, scratch, payload) {
         Ok(value) => hear_value(alloc, value),

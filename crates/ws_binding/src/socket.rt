@@ -6,6 +6,7 @@ ghost use Rattle.ws_binding.specs.declared.talker.TalkFault.TheVariants.{Failed 
 
 use crate::stream::ConnStream;
 use crate::subprotocol::PickSubprotocol;
+use crate::talk::TalkEnded;
 use crate::talker::{Got, TalkFault, Talker};
 use m2m_io::{Sink, Source};
 use m2m_names::Rsc;
@@ -161,15 +162,16 @@ impl<'a, X: Source + Sink + ReplyObserver> WsTalker<'a, X> {
         self.socket.send(message)
     }
 
-    /// Says that nothing more is said, where the talk goes on. What the peer still says is not read.
-    pub(crate) fn close(&mut self) -> Result<(), TalkFault>
+    /// Says that nothing more is said, and why, where the talk goes on. What the peer still says is
+    /// not read.
+    pub(crate) fn close(&mut self, ended: TalkEnded) -> Result<(), TalkFault>
         ensures { CountsFault failed result self.old.faults self.new.faults }
     {
         if self.stage != Stage::Open {
             return Ok(());
         }
         self.stage = Stage::Over;
-        match self.socket.close(Some(closing(CloseCode::Normal))) {
+        match self.socket.close(Some(closing(code_at(ended)))) {
             Ok(()) => Ok(()),
             Err(error) => Err(self.count(error)),
         }
@@ -209,6 +211,14 @@ fn code_of(error: &Error) -> Option<CloseCode> {
         Error::Protocol(_) => Some(CloseCode::Protocol),
         Error::AttackAttempt => Some(CloseCode::Policy),
         _ => None,
+    }
+}
+
+/// What a peer is told where a talk that goes on is ended so (RFC 6455, 7.4.1).
+fn code_at(ended: TalkEnded) -> CloseCode {
+    match ended {
+        TalkEnded::Memory => CloseCode::Error,
+        TalkEnded::Closed | TalkEnded::Failed => CloseCode::Normal,
     }
 }
 

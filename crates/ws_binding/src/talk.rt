@@ -9,6 +9,7 @@ ghost use Rattle.ws_binding.specs.Talker.{MaySay, NoneToCome, SaysAll, talk_told
 ghost use Rattle.ws_binding.specs.Way.{Answers, Goes, Hears};
 
 use crate::payload::{Heard, hear_payload};
+use crate::room::PayloadRoom;
 use crate::talker::{Got, TalkFault, Talker};
 use cse_machine::{Event, Outcome};
 use desk_replies::{Replier, bare_reply};
@@ -54,7 +55,7 @@ impl From<TalkFault> for TalkEnded {
 #[derive(Drop)]
 struct Rooms {
     scratch: Scratch,
-    text: Vec<u8>,
+    replies: PayloadRoom,
 }
 
 /// What answers the payloads of a talk: where their requests are asked, and what makes replies of
@@ -166,10 +167,13 @@ where
             return Some(TalkEnded::Memory);
         };
         let rsc = reply.parts().rsc;
-        let Ok(()) = write_payload(self.alloc, &mut rooms.text, reply) else {
+        let mut text = rooms.replies.take(self.alloc);
+        let Ok(()) = write_payload(self.alloc, &mut text, reply) else {
             return Some(TalkEnded::Memory);
         };
-        match say_told(talker, &rooms.text, bytes, rsc) {
+        let said = say_told(talker, &text, bytes, rsc);
+        rooms.replies.keep(self.alloc, text);
+        match said {
             Ok(()) => None,
             Err(fault) => Some(TalkEnded::from(fault)),
         }
@@ -250,7 +254,7 @@ where
     };
     let mut rooms = Rooms {
         scratch: Scratch::new(alloc),
-        text: Vec::new(alloc),
+        replies: PayloadRoom::new(alloc),
     };
     for _ in 0..MOST_PAYLOADS {
         if let Some(ended) = answering.answer_next(seat, talker, clock, link, &mut rooms) {
