@@ -12,3 +12,4 @@ pub mod OnwardLemmas
 pub mod SentOnLemmas
 pub mod MemberLemmas
 pub mod OriginatorLemmas
+pub mod PartLemmas

@@ -70,7 +70,7 @@ settled_front xs ys front other more rest ps qs os os' then last settled same ma
     ∙ front_of n qs os' last (both ∙ many') q
 
 -- as many requests as outcomes
-whole_length : (rule : ReplyRule) (group : Group) → IsWhole rule group → length (requests_of rule group) ≡ length (outcomes_in group)
+pub whole_length : (rule : ReplyRule) (group : Group) → IsWhole rule group → length (requests_of rule group) ≡ length (outcomes_in group)
 whole_length rule group whole =
     let taken : length (take (length group.outcomes) (rule.behind group.request group.outcome)) ≡ length (rule.behind group.request group.outcome) =
     ap (λ v. length v) (take_all (length group.outcomes) (rule.behind group.request group.outcome) (omega (arith, whole.all))) in

@@ -4,3 +4,4 @@ pub mod Onward
 pub mod Peers
 pub mod Repeating
 pub mod SentOn
+pub mod Parts

@@ -5,6 +5,7 @@ ghost use Rattle.service_laws.specs.Laws.{TheRulesAskForTheOriginator, TheRulesP
 ghost use Rattle.service_laws.specs.Laws.{WhatIsHeardTellsWhoAsks, WithoutTheSegmentNonePolled};
 ghost use Rattle.service_laws.specs.Members.{EachMemberAnswersAtItsPlace};
 ghost use Rattle.service_laws.specs.Onward.{WhatGoesOnIsAnsweredThere, WhatGoesOnSaysAll};
+ghost use Rattle.service_laws.specs.Parts.{EachIsAnsweredAtItsPlace};
 ghost use Rattle.service_laws.specs.Peers.{AnAnswerIsThePeers, TheRequestIsAnsweredThere};
 ghost use Rattle.service_laws.specs.Peers.{WhatBindsToNothingIsRefusedThere};
 ghost use Rattle.service_laws.specs.Peers.{WhatIsNoMessageIsRefusedThere};
@@ -118,4 +119,10 @@ pub fn equal_sights_are_served_alike()
 /// place, in the order of `mid`: also from a member at another CSE.
 pub fn each_member_answers_at_its_place()
     ensures { EachMemberAnswersAtItsPlace }
+{}
+
+/// Each request of a connection that was answered whole is answered at its place as it is alone, by
+/// whatever rule; so what a law says of one request holds of each request of a connection.
+pub fn each_request_is_answered_at_its_place()
+    ensures { EachIsAnsweredAtItsPlace }
 {}
