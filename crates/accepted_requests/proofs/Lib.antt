@@ -1,0 +1,5 @@
+pub mod AskedLemmas
+pub mod EffectLemmas
+pub mod FormLemmas
+pub mod HereLemmas
+pub mod KeptLemmas

@@ -1,0 +1,6 @@
+use Rattle.std.proofs.Common.{ap}
+use Rattle.accepted_requests.specs.Entries.{LaterEntryData}
+use Rattle.accepted_requests.proofs.entry.LaterEntry.number.Goals as goal
+
+pub returns : goal.returns
+returns c = ap (λ (e : LaterEntryData). e.number) c.self.view_is

@@ -1,0 +1,19 @@
+-- What an accepted request keeps ready.
+use Rattle.std.specs.Prelude.{◌≡◌, ℕ, Bool, true, false, List, Option, Some, None, IsUtf8}
+use Rattle.filter_criteria.specs.Bounds.{IsMoment}
+use Rattle.primitive_json.specs.declared.reply.ReplyParts.{ReplyParts}
+use Rattle.primitive_json.specs.declared.request.RequestParts.{RequestParts}
+use Rattle.accepted_requests.specs.Entries.{ready_reply}
+
+-- the reply, once it was run
+abbrev pub reply_kept : Bool → ReplyParts → Option ReplyParts
+reply_kept true reply = Some reply
+reply_kept false reply = None
+
+-- Its originator is a text, its moment one of a timestamp. Before it was run, its reply is the one
+-- for which memory runs out.
+pub record IsKeptReady (originator : List ℕ) (accepted : ℕ) (request : RequestParts)
+    (has_run : Bool) (reply : ReplyParts) : Type 0 where
+  pub originator_text : IsUtf8 originator
+  pub accepted_moment : IsMoment accepted
+  pub ready : has_run ≡ false → reply ≡ ready_reply request

@@ -1,0 +1,7 @@
+pub mod Entries
+pub mod Names
+pub mod Here
+pub mod Kept
+pub mod Form
+pub mod Effects
+pub mod Asked

@@ -1,0 +1,11 @@
+pub mod AnswerLemmas
+pub mod GoingLemmas
+pub mod HeardLemmas
+pub mod OnceLemmas
+pub mod OrderLemmas
+pub mod ResultLemmas
+pub mod SeenLemmas
+pub mod SightLemmas
+pub mod SoundLemmas
+pub mod StaysLemmas
+pub mod TurnLemmas

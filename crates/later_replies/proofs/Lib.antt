@@ -1,0 +1,3 @@
+pub mod HeardLemmas
+pub mod RunLemmas
+pub mod StepLemmas

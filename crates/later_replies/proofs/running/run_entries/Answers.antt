@@ -1,0 +1,10 @@
+use Rattle.std.proofs.Common.{Bool, ◌&&◌, ◌||◌, subst}
+use Rattle.std.specs.Prelude.{nat_lt}
+use Rattle.later_replies.specs.Entries.{LaterEntryData, does_wait}
+use Rattle.later_replies.specs.Runs.{ArePassed}
+use Rattle.later_replies.proofs.running.run_entries.Goals as goal
+
+pub returns : goal.returns
+returns g c =
+    subst (λ (all : Bool). ArePassed c.args.reading (λ (e : LaterEntryData). does_wait e && (all || nat_lt e.accepted c.args.moment)) c.args.entries.now.items c.args.entity.now c.pass_all.new.entries.items c.pass_all.new.entity)
+    c.runs_all.ensures c.pass_all.ensures

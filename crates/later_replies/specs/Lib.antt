@@ -1,0 +1,5 @@
+pub mod Entries
+pub mod Names
+pub mod Runs
+pub mod Effects
+pub mod Step
