@@ -8,6 +8,7 @@ import re
 import shutil
 import signal
 import socket
+import struct
 import subprocess
 import sys
 import tempfile
@@ -63,6 +64,19 @@ class Browser:
         os.killpg(self.process.pid, signal.SIGKILL)
         self.process.wait()
         time.sleep(0.5)
+
+
+HANDSHAKE = (b"GET / HTTP/1.1\r\nHost: a\r\nUpgrade: websocket\r\nConnection: Upgrade\r\nSec-WebSocket-Version: 13\r\n"
+             b"Sec-WebSocket-Key: dGhlIHNhbXBsZSBub25jZQ==\r\nSec-WebSocket-Protocol: oneM2M.R2.0.json\r\n\r\n")
+
+
+def frame_of(payload, first=0x81, mask=bytes(4), told=None):
+    """A client's frame of WebSocket, which says this length, or another one. Its mask is of zeros unless it is said."""
+    length = len(payload) if told is None else told
+    size = (bytes([128 | length]) if length < 126 else b"\xfe" + struct.pack(">H", length) if length < 65536
+            else b"\xff" + struct.pack(">Q", length % 2**64))
+    masked = bytes(it ^ mask[at % 4] for at, it in enumerate(payload)) if any(mask) else payload
+    return bytes([first]) + size + mask + masked
 
 
 def waits_until(holds, seconds=30):

@@ -1,0 +1,38 @@
+/* Tells which edges the runs of a program took. checks/unproved --edges links it into a program whose edges clang counts.
+   As the program ends it adds its counts to the file COUNTED_EDGES: a byte for each edge, in which a bit stands for once,
+   twice, 3 times, 4 to 7, 8 to 15, 16 to 31, 32 to 127, and more. */
+#include <fcntl.h>
+#include <stdint.h>
+#include <stdlib.h>
+#include <sys/mman.h>
+#include <sys/syscall.h>
+#include <unistd.h>
+
+static uint8_t *first, *last;
+
+void __sanitizer_cov_8bit_counters_init(uint8_t *from, uint8_t *to) { first = from, last = to; }
+
+static uint8_t bit_of(uint8_t count) {
+  return count == 0 ? 0 : count < 4 ? 1 << (count - 1) : count < 8 ? 8 : count < 16 ? 16 : count < 32 ? 32
+    : count < 128 ? 64 : 128;
+}
+
+static void end(void) {
+  const char *name = getenv("COUNTED_EDGES");
+  int file = name && first ? open(name, O_RDWR | O_CREAT, 0600) : -1;
+  if (file < 0) return;
+  uint8_t *taken = MAP_FAILED;
+  if (ftruncate(file, last - first) == 0) taken = mmap(0, last - first, PROT_READ | PROT_WRITE, MAP_SHARED, file, 0);
+  close(file);
+  if (taken == MAP_FAILED) return;
+  for (long at = 0; at < last - first; at++) {
+    uint8_t bit = bit_of(first[at]);
+    if (bit & ~taken[at]) taken[at] |= bit;
+  }
+}
+
+/* A program of the kit ends by this call, and not by what is done at an end of `main`. */
+void _exit(int status) {
+  end();
+  for (;;) syscall(SYS_exit_group, status);
+}
