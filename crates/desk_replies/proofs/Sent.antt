@@ -2,7 +2,7 @@
 -- finds each field's proof, but breaks off at a whole struct, so each struct is shown by its fields.
 use denote.Param.Send.{IsSend, sendable}
 use denote.Param.SendFields.{declared_send, variants_send}
-use Rattle.std.proofs.Crossing.{crosses}
+use Rattle.std.proofs.Crossing.{Box-send, crosses}
 use Rattle.desk_replies.proofs.ValuesSent.{text_send, val_send}
 use Rattle.filter_criteria.specs.contracts.filter.Filter as filter
 use Rattle.filter_criteria.specs.contracts.filter.Filter.TheInside as filter_inside
@@ -29,7 +29,7 @@ reply_parts_send = declared_send reply_parts.the_type
 reply_inside_send : IsSend reply_inside.the_row
 reply_inside_send = declared_send reply_inside.the_type (reply_parts_send, tt)
 
-reply_send : IsSend reply.the_row
+pub reply_send : IsSend reply.the_row
 reply_send = record { owned = λ d vs x. (reply_inside_send.owned x.0 vs, tt); leaving = λ k d w. tt }
 
 filter_parts_send : IsSend filter_parts.the_row
@@ -75,7 +75,7 @@ filter_parts_send = declared_send filter_parts.the_type (
 )
 
 filter_inside_send : IsSend filter_inside.the_row
-filter_inside_send = declared_send filter_inside.the_type (filter_parts_send, tt)
+filter_inside_send = declared_send filter_inside.the_type (Box-send filter_parts.the_row filter_parts_send, tt)
 
 filter_send : IsSend filter.the_row
 filter_send = record { owned = λ d vs x. (filter_inside_send.owned x.0 vs, tt); leaving = λ k d w. tt }
@@ -113,7 +113,7 @@ request_parts_send = declared_send request_parts.the_type (
 request_inside_send : IsSend request_inside.the_row
 request_inside_send = declared_send request_inside.the_type (request_parts_send, tt)
 
-request_send : IsSend request.the_row
+pub request_send : IsSend request.the_row
 request_send = record { owned = λ d vs x. (request_inside_send.owned x.0 vs, tt); leaving = λ k d w. tt }
 
 pub event_send : IsSend event.the_row

@@ -76,10 +76,10 @@ pub struct FilterParts {
     pub lim: Option<u64>,
 }
 
-/// A filter.
+/// A filter. Its parts stand apart, so that a request, which seldom has one, is moved at less cost.
 #[derive(Debug, Drop)]
 pub struct Filter {
-    parts: FilterParts,
+    parts: Box<FilterParts>,
 }
 
 impl Model for Filter {
@@ -89,9 +89,9 @@ impl Model for Filter {
 
     ghost use Rattle.filter_criteria.specs.Filters.{IsSoundFilter};
 
-    ghost view = { λ f. f.parts };
+    ghost view = { λ f. f.parts.value };
 
-    ghost invariant = { λ f. IsSoundFilter f.parts };
+    ghost invariant = { λ f. IsSoundFilter f.parts.value };
 }
 
 impl FilterParts {
@@ -119,15 +119,18 @@ impl FilterParts {
 }
 
 impl Filter {
-    ghost use Rattle.std.specs.Prelude.{◌≡◌, IfOk};
+    ghost use Rattle.std.specs.Prelude.{◌≡◌, IfOk, IsUtf8};
+    ghost use Rattle.std.specs.List.{AllByRecursion};
+    ghost use Rattle.filter_criteria.specs.Conditions.{relabelled};
     ghost use Rattle.filter_criteria.specs.Filters.{IsSoundFilter};
 
     /// The filter of these parts.
-    pub fn of(parts: FilterParts) -> Filter
+    pub fn of(alloc: Global, parts: FilterParts) -> Result<Filter, OutOfMemory>
         requires { IsSoundFilter parts }
-        ensures { result ≡ parts }
+        ensures { IfOk result (λ f. f ≡ parts) }
     {
-        Filter { parts }
+        let parts = Box::new(alloc, parts)?;
+        Ok(Filter { parts })
     }
 
     /// Its parts, to be read.
@@ -135,7 +138,7 @@ impl Filter {
         ensures same { result.now ≡ self.now }
         ensures sound { IsSoundFilter result.now }
     {
-        &self.parts
+        &*self.parts
     }
 
     /// Its parts, to be kept.
@@ -143,13 +146,23 @@ impl Filter {
         ensures same { result ≡ self }
         ensures sound { IsSoundFilter result }
     {
-        self.parts
+        Box::into_inner(self.parts)
+    }
+
+    /// The same with these labels. It takes no memory.
+    pub(crate) fn with_labels(self, labels: Labels) -> Filter
+        requires { AllByRecursion IsUtf8 labels }
+        ensures { result ≡ relabelled labels self }
+    {
+        let Filter { mut parts } = self;
+        parts.lbl = labels;
+        Filter { parts }
     }
 
     /// An equal filter.
     pub fn copy(&self, alloc: Global) -> Result<Filter, OutOfMemory>
         ensures { IfOk result (λ f. f ≡ self.now) }
     {
-        Ok(Filter::of(self.parts().copy(alloc)?))
+        Filter::of(alloc, self.parts().copy(alloc)?)
     }
 }

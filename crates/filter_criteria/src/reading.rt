@@ -151,7 +151,7 @@ pub fn plain_filter(alloc: Global, filter: &Val) -> Result<Filter, OutOfMemory>
     ensures { IfOk result
         (λ f. f ≡ spec.relabelled [] (spec.filter_in (shared.members_in filter.now))) }
 {
-    Ok(Filter::of(FilterParts {
+    let parts = FilterParts {
         crb: moment_for(filter, Condition::CreatedBefore),
         cra: moment_for(filter, Condition::CreatedAfter),
         ms: moment_for(filter, Condition::ModifiedSince),
@@ -166,7 +166,8 @@ pub fn plain_filter(alloc: Global, filter: &Val) -> Result<Filter, OutOfMemory>
         szb: count_for(filter, Condition::SizeBelow),
         fu: usage_in(filter),
         lim: count_for(filter, Condition::Limit),
-    }))
+    };
+    Filter::of(alloc, parts)
 }
 
 /// The same alternatives, moved out of the value.
@@ -238,10 +239,7 @@ pub fn labelled(filter: Option<Filter>, labels: Labels) -> Option<Filter>
     ensures { result ≡ option_map (spec.relabelled labels) filter }
 {
     match filter {
-        Some(filter) => Some(Filter::of(FilterParts {
-            lbl: labels,
-            ..filter.into_parts()
-        })),
+        Some(filter) => Some(filter.with_labels(labels)),
         None => None,
     }
 }

@@ -94,13 +94,13 @@ fn kept_result(op: Op, number: Option<i64>) -> Option<i64>
 }
 
 /// The filter of conditions, where there are any.
-fn filter_of(conditions: Option<FilterParts>) -> Option<Filter>
+fn filter_of(alloc: Global, conditions: Option<FilterParts>) -> Result<Option<Filter>, OutOfMemory>
     requires { ForSome conditions IsSoundFilter }
-    ensures { result ≡ conditions }
+    ensures { IfOk result (λ f. f ≡ conditions) }
 {
     match conditions {
-        Some(parts) => Some(Filter::of(parts)),
-        None => None,
+        Some(parts) => Ok(Some(Filter::of(alloc, parts)?)),
+        None => Ok(None),
     }
 }
 
@@ -131,7 +131,7 @@ fn request_of(
         rqet: caller.expiry,
         rt: query.rt,
         rcn: kept_result(op, query.rcn),
-        fc: filter_of(query.fc),
+        fc: filter_of(alloc, query.fc)?,
         drt: query.drt,
     }))
 }

@@ -46,7 +46,7 @@ pairs_onto-push : (es : List Entry) (e : Entry) (ps : Pairs) → pairs_onto (es 
 pairs_onto-push [] e ps = refl
 pairs_onto-push (x ∷ es) e ps = ap (pair x.0 x.1) (pairs_onto-push es e ps)
 
-one_more : (ds : List Data) (d : Data) (rest : Result Elements ValFault) → after_kept ds (followed rest (λ es. Ok (element d es))) ≡ after_kept (ds ++ d ∷ []) rest
+pub one_more : (ds : List Data) (d : Data) (rest : Result Elements ValFault) → after_kept ds (followed rest (λ es. Ok (element d es))) ≡ after_kept (ds ++ d ∷ []) rest
 one_more ds d (Ok es) = ap Ok (sym (onto-push ds d es))
 one_more ds d (Err fault) = refl
 

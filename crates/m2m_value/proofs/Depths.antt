@@ -1,9 +1,9 @@
 -- A value nests no deeper than what it is kept from.
-use Rattle.std.proofs.Common.{◌≤◌, suc, max, Result, Ok, Err, IfOk, arith}
+use Rattle.std.proofs.Common.{◌≡◌, ◌≤◌, suc, max, Option, Some, None, Result, Ok, Err, IfOk, is_err, true≢false, refl, ap, arith}
 use Rattle.std.proofs.lemmas.Result.{IfOk-at_ok}
 use Rattle.serde_json.specs.Data as json
 use Rattle.m2m_value.specs.Data.{Data, number, list, object, Elements, element, Pairs, pair, depth, elements_depth, pairs_depth}
-use Rattle.m2m_value.specs.Reading.{followed, whole_of, value_kept, elements_in, pairs_in, reading_depth, Gives}
+use Rattle.m2m_value.specs.Reading.{followed, whole_of, value_kept, value_if, elements_in, pairs_in, reading_depth, Gives}
 use Rattle.m2m_value.specs.declared.fault.ValFault.{ValFault}
 
 -- each value that is told meets P
@@ -45,3 +45,8 @@ mutual
 pub shallow : (r : Result Data ValFault) (j : json.Data) → Gives (λ d. d) r (value_kept j) → json.depth j ≤ reading_depth → IfOk r (λ d. depth d ≤ reading_depth)
 shallow (Ok d) j told h = let within : depth d ≤ json.depth j = IfOk-at_ok (λ v. depth v ≤ json.depth j) told (no_deeper j) in omega (arith, within)
 shallow (Err fault) j told h = tt
+
+-- and so is what is kept of a value that was read
+pub shallow_read : (o : Option json.Data) (d : Data) → value_if o ≡ Ok d → ((j : json.Data) → o ≡ Some j → json.depth j ≤ reading_depth) → depth d ≤ reading_depth
+shallow_read None d told h = absurd (true≢false (ap is_err told))
+shallow_read (Some j) d told h = let within : depth d ≤ json.depth j = IfOk-at_ok (λ v. depth v ≤ json.depth j) told (no_deeper j) in let low = h j refl in omega (arith, within, low)

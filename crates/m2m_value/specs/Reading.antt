@@ -49,6 +49,16 @@ abbrev pub value_if : Option json.Data → Result Data ValFault
 value_if None = Err NotJson
 value_if (Some d) = value_kept d
 
+-- the elements of the items that were read, if any were, or the first fault
+abbrev pub elements_if : Option json.Items → Result Elements ValFault
+elements_if None = Err NotJson
+elements_if (Some ds) = elements_in ds
+
+-- the pairs of the members that were read, if any were, or the first fault
+abbrev pub pairs_if : Option json.Members → Result Pairs ValFault
+pairs_if None = Err NotJson
+pairs_if (Some ms) = pairs_in ms
+
 -- how deep a text is read
 abbrev pub reading_depth : ℕ
 reading_depth = 127

@@ -8,15 +8,16 @@
 //! `read` gives is at most 127 deep; who puts values into values keeps them about as shallow, and
 //! `write` promises that a text is read back up to that depth.
 //!
-//! What it costs. A read of 64 KiB is what `serde_json` does (one pass for UTF-8, one that marks
-//! where tokens are, one over the tokens, with one allocation for each text and key and some for
-//! each list and object), and then one pass over the values, not the bytes: texts and keys are
-//! moved, and each list and object is allocated once, at its length. `read` clears 16 KiB of
-//! room of its own first; `read_in` has the caller's `Scratch`, which is kept from read to read and
-//! grows to the longest text, and takes one more allocation for each list and object. A write is
-//! one pass over the value, and its bytes go straight to the end of `out`: no allocation where
-//! there is room for them, and otherwise those by which a vector grows, some fifteen from nothing
-//! to 64 KiB. A size is one pass over the value, without memory.
+//! What it costs. A read of 64 KiB by `read` is what `serde_json` does (one pass for UTF-8, one that
+//! marks where tokens are, one over the tokens, with one allocation for each text and key and some
+//! for each list and object), and then one pass over the values, not the bytes: texts and keys are
+//! moved, and each list and object is allocated once, at its length. It clears 16 KiB of room of
+//! its own first. `read_in` has the caller's `Scratch`, which is kept from read to read and grows
+//! to the longest text. It makes the value of what `json` reads, with no value of `serde_json`
+//! between, and the keys that most requests have take no memory. A write is one pass over the
+//! value, and its bytes go straight to the end of `out`: no allocation where there is room for
+//! them, and otherwise those by which a vector grows, some fifteen from nothing to 64 KiB. A size
+//! is one pass over the value, without memory.
 //!
 //! ```text
 //! let mut out = Vec::new(alloc);
@@ -28,7 +29,9 @@
 mod copy;
 mod fault;
 mod key;
+mod known;
 mod parsing;
+mod parts;
 mod reading;
 mod same;
 mod shapes;

@@ -1,18 +1,17 @@
 //! From bytes to a value, over what `serde_json` keeps.
-ghost use Rattle.std.specs.Prelude.{◌≡◌, ◌≤◌, IfOk, IsUtf8, string_bytes};
-ghost use Rattle.serde_json.specs.View.{view, number_view, items_view, members_view};
+ghost use Rattle.std.specs.Prelude.{◌≤◌, IfOk};
+ghost use Rattle.serde_json.specs.View.{view, items_view, members_view};
 ghost use Rattle.m2m_value.specs.Data.{depth, elements_of, pairs_of};
 ghost use Rattle.m2m_value.specs.Node.{HaveTextKeys};
-ghost use Rattle.m2m_value.specs.Reading.{whole_of, value_kept, elements_in, pairs_in, reading};
+ghost use Rattle.m2m_value.specs.Reading.{value_kept, elements_in, pairs_in, reading};
 ghost use Rattle.m2m_value.specs.Reading.{Gives, reading_depth};
 
 use crate::fault::ValFault;
-use crate::key::MemberKey;
 use crate::parsing::parse_in;
-use crate::text::Text;
+use crate::parts::{key_of, text_of_string, whole};
 use crate::value::{Items, Members, Node, Val};
 use json::Scratch;
-use serde_json::{Map, Number, Value};
+use serde_json::{Map, Value};
 use std::alloc::Global;
 
 /// The value that the bytes spell, at most 127 deep. Of members with one key the last stays. Of
@@ -34,7 +33,7 @@ pub fn read_in(alloc: Global, scratch: &mut Scratch, bytes: &[u8]) -> Result<Val
     ensures nests { IfOk result (λ v. depth v ≤ reading_depth) }
 {
     match parse_in(alloc, scratch, bytes) {
-        Some(value) => kept(alloc, value),
+        Some(value) => Ok(value),
         None => read(alloc, bytes),
     }
 }
@@ -47,34 +46,10 @@ fn kept(alloc: Global, value: Value) -> Result<Val, ValFault>
         Value::Null => Ok(Val::of(Node::Null)),
         Value::Bool(b) => Ok(Val::of(Node::Bool(b))),
         Value::Number(n) => Ok(Val::of(Node::Num(whole(n)?))),
-        Value::String(s) => Ok(Val::of(Node::Text(text(s)))),
+        Value::String(s) => Ok(Val::of(Node::Text(text_of_string(s)))),
         Value::Array(items) => Ok(Val::of(Node::List(kept_items(alloc, items)?))),
         Value::Object(members) => Ok(Val::of(Node::Obj(kept_members(alloc, members)?))),
     }
-}
-
-fn whole(n: Number) -> Result<i64, ValFault>
-    ensures { Gives (λ z. z) result (whole_of (number_view n)) }
-{
-    match n.as_i64() {
-        Some(z) => Ok(z),
-        None if n.is_u64() => Err(ValFault::TooWide),
-        None => Err(ValFault::Fraction),
-    }
-}
-
-fn text(s: String) -> Text
-    ensures value { result ≡ string_bytes s }
-    ensures utf8 { IsUtf8 (string_bytes s) }
-{
-    Text::of(s.into_bytes())
-}
-
-fn key_of(s: String) -> MemberKey
-    ensures value { result ≡ string_bytes s }
-    ensures utf8 { IsUtf8 (string_bytes s) }
-{
-    MemberKey::of(text(s))
 }
 
 #[cycle(kept)]

@@ -1,6 +1,6 @@
 -- Texts that share a front, and texts that don't.
 use Rattle.std.specs.Prelude.{nat_eq}
-use Rattle.std.proofs.Common.{◌≡◌, ◌≢◌, ℕ, List, [], ◌∷◌, ◌++◌, take, length, true, false, inl, inr, refl, sym, ap, ◌∙◌, append_assoc, Option, Some, None, MatchOption, Bor}
+use Rattle.std.proofs.Common.{◌≡◌, ◌≢◌, ℕ, List, [], ◌∷◌, ◌++◌, take, length, slice_index, ◌-◌, ◌==◌, Bool, ◌||◌, true, false, inl, inr, refl, sym, ap, ◌∙◌, append_assoc, Option, Some, None, MatchOption, Bor}
 use Rattle.std.proofs.lemmas.Bool.{both_ways, false_from_ne_true, eq-eqb, ne_eqb, cases_eq}
 use Rattle.std.proofs.lemmas.Bool.Decides.{Decides-eqb}
 use Rattle.std.proofs.lemmas.Slice.Eq.{bytes_eq-Decides, starts_is, strip_prefix_is}
@@ -9,6 +9,7 @@ use Rattle.std.specs.Str.{bytes_eq}
 use Rattle.std.specs.Cmp.Lexicographic.{pointwise}
 use Rattle.std.proofs.lemmas.List.Prefix.{front_rest}
 use Rattle.m2m_names.proofs.NameLemmas.{starts_rest}
+use Rattle.policy_eval.specs.Forms.{end_alike}
 
 -- a text begins with another exactly where it is that one and a rest
 pub rest_starts : (t w rest : List ℕ) → t ≡ w ++ rest → starts_with nat_eq t w ≡ true
@@ -66,3 +67,17 @@ word_mark word mark path mid None at none =
     none rest (sym (front_rest (word ++ mid) word mid refl) ∙ front_rest (word ++ mid) word (mark ++ rest) other))
 word_mark word mark path mid (Some x) at e =
     at ∙ ap (λ t. word ++ t) e ∙ sym (append_assoc word mark x.now)
+
+or_true : (x : Bool) → (x || true) ≡ true
+or_true true = refl
+or_true false = refl
+
+-- a text is as long as itself, and ends in its own last byte
+alike_itself : (a : List ℕ) → end_alike a a ≡ true
+alike_itself a =
+    rw (eq-eqb (length a) (length a) refl, eq-eqb (slice_index a (length a - 1)) (slice_index a (length a - 1)) refl) (or_true (length a == 0))
+
+-- texts that aren't as long as each other, or end in other bytes, are not equal
+pub ends_apart : (a b : List ℕ) → end_alike a b ≡ false → bytes_eq a b ≡ false
+ends_apart a b apart =
+    false_from_ne_true _ (λ is. both_ways _ apart (ap (end_alike a) (sym ((bytes_eq-Decides a b).0 is)) ∙ alike_itself a))

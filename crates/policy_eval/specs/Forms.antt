@@ -1,5 +1,6 @@
 -- An originator's full form, read apart.
-use Rattle.std.specs.Prelude.{◌≡◌, ℕ, nat_eq, List, ◌++◌, codes, false}
+use Rattle.std.specs.Prelude.{◌≡◌, ℕ, ◌-◌, ◌==◌, Bool, ◌&&◌, ◌||◌, nat_eq, List, ◌++◌, length}
+use Rattle.std.specs.Prelude.{slice_index, codes, false}
 use Rattle.std.specs.List.{starts_with}
 use Rattle.resource_model.specs.Home.{HomeData}
 use Rattle.policy_eval.specs.Originators.{full_form, own_lead}
@@ -12,3 +13,9 @@ IsForm home text (Own own) = full_form home text ≡ codes "/" ++ (own_lead home
 IsForm home text (Other path) =
     (full_form home text ≡ codes "/" ++ path.now)
     × (starts_with nat_eq path.now (own_lead home) ≡ false)
+
+-- two texts are as long as each other, and end in one byte
+abbrev pub end_alike : List ℕ → List ℕ → Bool
+end_alike a b =
+    length a == length b
+    && (length a == 0 || slice_index a (length a - 1) == slice_index b (length a - 1))

@@ -1,7 +1,8 @@
 //! Originators, and the entries of a rule that name them.
-ghost use Rattle.std.specs.Prelude.{◌≡◌, ◌++◌, nat_eq, false, MatchOption};
+ghost use Rattle.std.specs.Prelude.{◌≡◌, ◌++◌, codes, nat_eq, false, MatchOption};
 ghost use Rattle.std.specs.List.{starts_with};
-ghost use Rattle.policy_eval.specs.Forms.{IsForm};
+ghost use Rattle.std.specs.Str.{bytes_eq};
+ghost use Rattle.policy_eval.specs.Forms.{IsForm, end_alike};
 ghost use Rattle.policy_eval.specs.Originators as spec;
 ghost use Rattle.policy_eval.specs.Originators.{own_lead};
 
@@ -16,7 +17,8 @@ pub enum Form<'a> {
     Other(&'a [u8]),
 }
 
-fn form_of<'a>(home: &Home, text: &'a [u8]) -> Form<'a>
+/// The full form of a text, read apart.
+pub(crate) fn form_of<'a>(home: &Home, text: &'a [u8]) -> Form<'a>
     ensures { IsForm home.now text.now result }
 {
     let Some(path) = text.strip_prefix(b"/".as_slice()) else {
@@ -37,16 +39,60 @@ fn own_part<'a>(home: &Home, path: &'a [u8]) -> Option<&'a [u8]>
         .strip_prefix(b"/".as_slice())
 }
 
+/// Whether two texts are as long as each other, and end in one byte.
+fn end_alike(a: &[u8], b: &[u8]) -> bool
+    ensures { result ≡ end_alike a.now b.now }
+{
+    let n = a.len();
+    n == b.len() && (n == 0 || a[n - 1] == b[n - 1])
+}
+
+/// Whether two texts are equal. Most that differ do so in their lengths or their last bytes.
+#[tactic(auto, using(crate::proofs::FormLemmas::ends_apart))]
+fn are_equal(a: &[u8], b: &[u8]) -> bool
+    ensures { result ≡ bytes_eq a.now b.now }
+{
+    end_alike(a, b) && a == b
+}
+
+/// Whether the full form of a text is this behind `/`, own CSE-ID and `/`.
+fn is_own(home: &Home, own: &[u8], text: &[u8]) -> bool
+    ensures { result
+        ≡ bytes_eq (codes "/" ++ (own_lead home.now ++ own.now)) (spec.full_form home.now text.now) }
+{
+    match form_of(home, text) {
+        Form::Own(said) => are_equal(own, said),
+        Form::Other(_) => false,
+    }
+}
+
+/// Whether the full form of a text is this behind `/`, which isn't one of this CSE's own.
+fn is_other(home: &Home, path: &[u8], text: &[u8]) -> bool
+    requires { starts_with nat_eq path.now (own_lead home.now) ≡ false }
+    ensures { result ≡ bytes_eq (codes "/" ++ path.now) (spec.full_form home.now text.now) }
+{
+    match form_of(home, text) {
+        Form::Own(_) => false,
+        Form::Other(said) => are_equal(path, said),
+    }
+}
+
+/// Whether a text names the originator whose full form is read apart so.
+fn is_of_form(home: &Home, originator: &[u8], form: Form, text: &[u8]) -> bool
+    requires { IsForm home.now originator.now form }
+    ensures { result ≡ spec.is_same home.now originator.now text.now }
+{
+    match form {
+        Form::Own(own) => is_own(home, own, text),
+        Form::Other(path) => is_other(home, path, text),
+    }
+}
+
 /// Whether two texts name one originator: their full forms are equal.
 pub fn is_same(home: &Home, a: &[u8], b: &[u8]) -> bool
     ensures { result ≡ spec.is_same home.now a.now b.now }
 {
-    match (form_of(home, a), form_of(home, b)) {
-        (Form::Own(a), Form::Own(b)) => a == b,
-        (Form::Other(a), Form::Other(b)) => a == b,
-        (Form::Own(_), Form::Other(_)) => false,
-        (Form::Other(_), Form::Own(_)) => false,
-    }
+    is_of_form(home, a, form_of(home, a), b)
 }
 
 /// Whether the full form of a text stands at the front of the originator's.
@@ -67,12 +113,13 @@ fn fits_pattern(home: &Home, originator: &[u8], entry: &[u8]) -> bool
     entry.ends_with(b"*".as_slice()) && is_front(home, originator, &entry[..entry.len() - 1])
 }
 
-/// Whether an entry of `acor` names the originator.
-pub fn does_name(home: &Home, originator: &[u8], entry: &[u8]) -> bool
+/// Whether an entry of `acor` names the originator, whose full form is read apart so.
+pub(crate) fn does_name(home: &Home, originator: &[u8], form: Form, entry: &[u8]) -> bool
+    requires { IsForm home.now originator.now form }
     ensures { result ≡ spec.does_name home.now originator.now entry.now }
 {
     entry == b"all".as_slice()
         || entry == b"*".as_slice()
-        || is_same(home, originator, entry)
+        || is_of_form(home, originator, form, entry)
         || fits_pattern(home, originator, entry)
 }

@@ -7,7 +7,7 @@ ghost use Rattle.policy_eval.specs.Rules as spec_rules;
 ghost use Rattle.policy_eval.specs.Rules.{named, texts_of};
 ghost use Rattle.policy_eval.specs.Rights as spec;
 
-use crate::originators::{does_name, is_same};
+use crate::originators::{does_name, form_of, is_same};
 use crate::policies::{bits_of, entries_of, ids_at, policy_named, registree, rules_in};
 use m2m_names::{ALL_BITS, Attr, Op, Ty};
 use m2m_value::Val;
@@ -17,9 +17,10 @@ use tree_model::{Home, Resource, Tree};
 fn is_subject(home: &Home, originator: &[u8], entries: &[Val]) -> bool
     ensures { result ≡ spec.is_subject home.now originator.now (named (texts_of entries.now)) }
 {
+    let form = form_of(home, originator);
     for entry in entries {
         if let Some(text) = entry.as_text() {
-            if does_name(home, originator, text.entries()) {
+            if does_name(home, originator, form, text.entries()) {
                 return true;
             }
         }

@@ -1,6 +1,7 @@
 //! The attributes of a resource as they are shown.
 ghost use Rattle.std.specs.Prelude.{◌≡◌, ◌≤◌, ◌++◌, map, take, IfOk, OnOk, IsUtf8};
 ghost use Rattle.m2m_names.specs.Attributes.{attr_short};
+ghost use Rattle.m2m_names.specs.declared.attributes.Attr.TheVariants.{Ct, Lt};
 ghost use Rattle.m2m_names.specs.Stamps.{last_moment};
 ghost use Rattle.m2m_names.specs.Types as types;
 ghost use Rattle.m2m_value.specs.Data.{text, number, list, elements_of};
@@ -132,8 +133,7 @@ fn add_before_type<T: Tree>(
     ensures { OnOk result (attrs.new ≡ with_rows (take 5 (common_rows
         (T.nodes tree.now) resource.now)) attrs.old) }
 {
-    set_moment(alloc, attrs, Attr::Ct, resource.ct())?;
-    set_moment(alloc, attrs, Attr::Lt, resource.lt())?;
+    set_changes(alloc, resource, attrs)?;
     attrs.set(Attr::Pi, Val::of_text(id_of_parent(alloc, tree, resource)?))?;
     attrs.set(Attr::Ri, Val::of_text(resource.id(alloc)?))?;
     attrs.set(Attr::Rn, Val::of_text(resource.name().copy(alloc)?))
@@ -213,6 +213,30 @@ fn set_moment(alloc: Global, attrs: &mut Attrs, attr: Attr, moment: u64) -> Resu
     ensures { OnOk result (attrs.new ≡ with_value attr (shown_moment moment) attrs.old) }
 {
     attrs.set(attr, stamp(alloc, moment)?)
+}
+
+// When it was created, and last changed.
+fn set_changes(alloc: Global, resource: &Resource, attrs: &mut Attrs) -> Result<(), OutOfMemory>
+    ensures { OnOk result (attrs.new ≡ with_value Lt (shown_moment resource.now.lt)
+        (with_value Ct (shown_moment resource.now.ct) attrs.old)) }
+{
+    let created = stamp(alloc, resource.ct())?;
+    let changed = stamp_beside(alloc, resource.lt(), resource.ct(), &created)?;
+    attrs.set(Attr::Ct, created)?;
+    attrs.set(Attr::Lt, changed)
+}
+
+// The timestamp of a moment, beside one that is known, which often is the same.
+fn stamp_beside(alloc: Global, moment: u64, other: u64, known: &Val) -> Result<Val, OutOfMemory>
+    requires moment { moment ≤ last_moment }
+    requires known { known.now ≡ shown_moment other }
+    ensures { IfOk result (λ v. v ≡ shown_moment moment) }
+{
+    if moment == other {
+        known.copy(alloc)
+    } else {
+        stamp(alloc, moment)
+    }
 }
 
 fn stamp(alloc: Global, moment: u64) -> Result<Val, OutOfMemory>

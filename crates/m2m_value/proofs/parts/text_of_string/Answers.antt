@@ -1,5 +1,5 @@
 use Rattle.std.proofs.lemmas.Str.{IsUtf8-string_bytes}
-use Rattle.m2m_value.proofs.reading.text.Goals as goal
+use Rattle.m2m_value.proofs.parts.text_of_string.Goals as goal
 
 pub returns-clause-utf8 : goal.returns-clause-utf8
 returns-clause-utf8 c = IsUtf8-string_bytes c.args.s
