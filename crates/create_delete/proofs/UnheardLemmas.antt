@@ -1,15 +1,16 @@
--- Of which creations nobody is told: no subscription stands under the parent. What an instance pushes out stands there too, and nothing stands under that.
+-- Of which creations and Updates nobody is told: no subscription stands under the parent, or under what is updated. What an instance or a container pushes out stands there too, and nothing stands under that.
 use Rattle.std.specs.Prelude.{◌==◌}
 use Rattle.std.proofs.Common.{◌≡◌, ℕ, List, [], ◌∷◌, ◌++◌, map, Bool, false, true, not, ◌&&◌, Option, None, Some, inl, inr, refl, sym, ap, ◌∙◌, subst}
 use Rattle.std.proofs.lemmas.Bool.{and_parts, cases_Bool, eq-eqb, eqb-true, false_from_ne_true, or_left}
 use Rattle.std.specs.List.{filter}
-use Rattle.m2m_names.specs.declared.types.Ty.TheVariants.{ContentInstance, Subscription}
+use Rattle.m2m_names.specs.declared.attributes.Attr.{Attr}
+use Rattle.m2m_names.specs.declared.types.Ty.TheVariants.{Container, ContentInstance, Subscription}
 use Rattle.resource_model.specs.Home.{HomeData}
 use Rattle.resource_model.specs.Resource.{ResourceData, is_ty}
 use Rattle.subscription_match.specs.Matching.{event_for}
 use Rattle.subscription_match.specs.Notices.{notes_of, notes_of_all}
 use Rattle.subscription_match.specs.declared.drafts.DraftParts.{DraftParts}
-use Rattle.tree_model.specs.Changes.{created, creation_changes, deleted, those_of}
+use Rattle.tree_model.specs.Changes.{created, creation_changes, deleted, those_of, update_changes, updated}
 use Rattle.tree_model.specs.Tree.{at, has, instance_size, instances_of, is_instance, is_tree, is_well_formed, numbers_of, subs_of}
 use Rattle.tree_model.proofs.GrowthLemmas.{tree_from_well_formed}
 use Rattle.tree_model.proofs.OrderLemmas.{placed_stands, tree_ascends}
@@ -20,6 +21,7 @@ use Rattle.entity_model.specs.Entity.{EntityData}
 use Rattle.entity_model.specs.Sound.{IsSoundEntity}
 use Rattle.entity_model.proofs.ExpiryLemmas.{those_all}
 use Rattle.entity_model.proofs.LoweringLemmas.{each_of}
+use Rattle.create_delete.specs.Changing.{pushed_by}
 use Rattle.create_delete.specs.Joining.{MayJoin, gone_by}
 use Rattle.create_delete.specs.declared.joining.ContainerUpdate.{ContainerUpdate}
 use Rattle.create_delete.proofs.KeptToldLemmas.{other_untold}
@@ -45,6 +47,22 @@ module _ (home : HomeData) (nodes : List ResourceData) (formed : is_well_formed 
   new_untold r beside =
       ap (λ (ds : List DraftParts). ds ++ [])
       (none_told home nodes going (created r) nodes (each_of (λ t. event_for going (created r) t ≡ None) nodes (tree_ascends nodes tree_is) (no_event r beside)))
+
+  -- ---- of an Update
+
+  updated_elsewhere : (r s t : ResourceData) (named : List Attr) → (t.parent == s.number) ≡ false → event_for going (updated r s named) t ≡ None
+  updated_elsewhere r s t named apart = rw apart refl
+
+  no_update : (r s : ResourceData) (named : List Attr) → subs_of s.number nodes ≡ [] → (t : ResourceData) → at t.number nodes ≡ Some t → event_for going (updated r s named) t ≡ None
+  no_update r s named beside t found = elim (cases_Bool (is_ty t.ty Subscription)) [
+    | inl sub ↦ updated_elsewhere r s t named (false_from_ne_true _ (λ same. sub_listed nodes formed s.number t found sub (eqb-true t.parent s.number same) beside))
+    | inr other ↦ other_untold going (updated r s named) t other
+  ]
+
+  pub update_untold : (r s : ResourceData) (named : List Attr) → subs_of s.number nodes ≡ [] → notes_of home nodes going (updated r s named) ≡ []
+  update_untold r s named beside =
+      ap (λ (ds : List DraftParts). ds ++ [])
+      (none_told home nodes going (updated r s named) nodes (each_of (λ t. event_for going (updated r s named) t ≡ None) nodes (tree_ascends nodes tree_is) (no_update r s named beside)))
 
   -- ---- of the instances that go
 
@@ -80,3 +98,18 @@ unheard_joined e r (Some f) sound may beside =
     subst (λ (gone : List ℕ). notes_of_all e.home e.nodes f.gone (map deleted (those_of gone e.nodes)) ≡ []) (sym may.gone)
     (evicted_untold e.home e.nodes sound.tree f.gone may.parent (limits_of may.parent) (Some (instance_size r)) e.last none) in
     ap (λ (ds : List DraftParts). ds ++ notes_of_all e.home e.nodes f.gone (map deleted (those_of f.gone e.nodes))) (new_untold e.home e.nodes sound.tree f.gone r beside) ∙ goes
+
+-- ---- an Update
+
+-- of what a container pushes out
+pushed_untold : (e : EntityData) (now : ResourceData) → IsSoundEntity e → (going : List ℕ) → subs_of now.number e.nodes ≡ [] → notes_of_all e.home e.nodes going (map deleted (those_of (pushed_by e now) e.nodes)) ≡ []
+pushed_untold e now sound going beside = elim (cases_Bool (is_ty now.ty Container)) [
+  | inl t ↦ rw t (evicted_untold e.home e.nodes sound.tree going now (limits_of now) None e.last beside)
+  | inr f ↦ rw f refl
+]
+
+pub unheard_updated : (e : EntityData) (now r : ResourceData) (named : List Attr) → IsSoundEntity e → subs_of now.number e.nodes ≡ [] → notes_of_all e.home e.nodes (pushed_by e now) (update_changes e.nodes r now named (pushed_by e now)) ≡ []
+unheard_updated e now r named sound beside =
+    let gone = pushed_by e now in
+    ap (λ (ds : List DraftParts). ds ++ notes_of_all e.home e.nodes gone (map deleted (those_of gone e.nodes))) (update_untold e.home e.nodes sound.tree gone r now named beside)
+    ∙ pushed_untold e now sound gone beside

@@ -1,16 +1,14 @@
 -- After which changes no copy follows: of what lists no CSE, and of instances whose container lists none.
-use Rattle.std.specs.Prelude.{◌==◌}
-use Rattle.std.proofs.Common.{◌≡◌, ℕ, List, [], ◌∷◌, ◌++◌, length, map, Bool, false, true, not, ◌&&◌, Option, None, Some, inl, inr, refl, sym, ap, ◌∙◌, subst}
-use Rattle.std.proofs.lemmas.Bool.{and_parts, cases_Bool, eqb-true}
-use Rattle.std.proofs.lemmas.List.{nil_from_length}
+use Rattle.std.proofs.Common.{◌≡◌, ℕ, List, [], ◌∷◌, ◌++◌, map, Bool, false, true, not, ◌&&◌, Option, None, Some, inl, inr, refl, sym, ap, ◌∙◌, subst}
+use Rattle.std.proofs.lemmas.Bool.{and_parts, cases_Bool}
 use Rattle.std.proofs.lemmas.Option.{same_Some}
 use Rattle.std.specs.List.{filter}
 use Rattle.std.specs.Option.{option_map_or}
 use Rattle.m2m_names.specs.declared.attributes.Attr.{Attr}
-use Rattle.m2m_names.specs.declared.types.Ty.TheVariants.{ContentInstance}
+use Rattle.m2m_names.specs.declared.types.Ty.TheVariants.{Container, ContentInstance}
 use Rattle.resource_model.specs.Home.{HomeData}
 use Rattle.resource_model.specs.Resource.{ResourceData, is_ty}
-use Rattle.tree_model.specs.Changes.{ChangeData, created, deleted, updated, creation_changes, update_changes}
+use Rattle.tree_model.specs.Changes.{created, deleted, creation_changes, removal_changes, update_changes}
 use Rattle.tree_model.specs.Tree.{at, has, instance_size, instances_of, is_instance, is_tree}
 use Rattle.tree_model.proofs.GrowthLemmas.{tree_from_well_formed}
 use Rattle.tree_model.proofs.OrderLemmas.{placed_stands}
@@ -25,8 +23,9 @@ use Rattle.entity_model.specs.Sound.{IsSoundEntity}
 use Rattle.entity_model.proofs.ExpiryLemmas.{those_all}
 use Rattle.entity_model.proofs.TellingLemmas.{none_requested}
 use Rattle.create_delete.specs.Changes.{those_of}
+use Rattle.create_delete.specs.Changing.{pushed_by, pushed_out}
 use Rattle.create_delete.specs.Joining.{MayJoin, gone_by}
-use Rattle.create_delete.specs.Telling.{copies_may_follow}
+use Rattle.create_delete.specs.Telling.{GoUnsent, copies_may_follow}
 use Rattle.create_delete.specs.declared.joining.ContainerUpdate.{ContainerUpdate}
 
 -- ---- instances of a container that lists no CSE
@@ -101,14 +100,27 @@ unsent_made e c r made f pushes follows same same_gone sound there may says none
     (subst (λ (o : Option ContainerUpdate). copy_requests e.home e.nodes (creation_changes e.nodes r (gone_by o)) ≡ []) (sym same_gone)
     (unsent_joined e c r f sound there may (ap (copies_may_follow c) (sym same) ∙ sym says ∙ none)))
 
--- ---- an Update that pushes nothing out
+-- ---- an Update
 
-pub none_listed : (numbers : List ℕ) → (length numbers == 0) ≡ true → numbers ≡ []
-none_listed numbers t = nil_from_length numbers (eqb-true (length numbers) 0 t)
+-- what a container pushes out
+pub pushed_unsent : (e : EntityData) (now : ResourceData) → is_tree e.nodes ≡ true → GoUnsent e.home e.nodes now.number (pushed_by e now)
+pushed_unsent e now tree r there none = elim (cases_Bool (is_ty now.ty Container)) [
+  | inl t ↦ rw t pushed
+  | inr f ↦ rw f refl
+]
+  where
+    number : r.number ≡ now.number
+    number = at_number now.number e.nodes r there
+
+    stands : at r.number e.nodes ≡ Some r
+    stands = ap (λ (n : ℕ). at n e.nodes) number ∙ there
+
+    pushed : copies_of_all e.home e.nodes (removal_changes e.nodes (pushed_out e now None)) ≡ []
+    pushed = subst (λ (n : ℕ). copies_of_all e.home e.nodes (map deleted (those_of (evicted (limits_of now) None e.last (instances_of n e.nodes)) e.nodes)) ≡ []) number (none_evicted e.home e.nodes r (limits_of now) None e.last tree stands none)
 
 -- where neither what it found nor what it leaves lists a CSE, no copy is asked for
-pub unsent_updated : (before after : ResourceData) (gone : List ℕ) → gone ≡ [] → lists_peers before ≡ false → lists_peers after ≡ false → (home : HomeData) (nodes : List ResourceData) (named : List Attr) → copy_requests home nodes (update_changes nodes before after named gone) ≡ []
-unsent_updated before after gone nothing old new home nodes named =
+pub unsent_updated : (home : HomeData) (nodes : List ResourceData) (before after : ResourceData) (named : List Attr) (gone : List ℕ) → at after.number nodes ≡ Some before → GoUnsent home nodes after.number gone → lists_peers before ≡ false → lists_peers after ≡ false → copy_requests home nodes (update_changes nodes before after named gone) ≡ []
+unsent_updated home nodes before after named gone there goes old new =
     none_requested home nodes (update_changes nodes before after named gone)
-    (ap (λ (numbers : List ℕ). copies_of_all home nodes (update_changes nodes before after named numbers)) nothing
-    ∙ ap (λ (ds : List CopyDraft). ds ++ []) (unsent_update home nodes before after named old new))
+    (ap (λ (ds : List CopyDraft). ds ++ copies_of_all home nodes (removal_changes nodes gone)) (unsent_update home nodes before after named old new)
+    ∙ goes before there old)

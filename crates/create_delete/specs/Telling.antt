@@ -1,17 +1,20 @@
 -- What comes of an operation, its changes told (TS-0001, 9.6.8 and 10.2.10).
-use Rattle.std.specs.Prelude.{◌≡◌, ◌⊎◌, ℕ, Bool, false, List, filter, nat_eq, Option, Some, IsTrue}
+use Rattle.std.specs.Prelude.{◌≡◌, ◌⊎◌, ℕ, Bool, false, List, [], filter, nat_eq, Option, Some, IsTrue}
 use Rattle.std.specs.Prelude.{if◌then◌else◌}
 use Rattle.std.specs.List.{list_any}
 use Rattle.m2m_names.specs.declared.attributes.Attr.{Attr}
 use Rattle.m2m_names.specs.declared.operations.Op.{Op}
 use Rattle.m2m_names.specs.declared.types.Ty.TheVariants.{ContentInstance, Subscription}
 use Rattle.primitive_json.specs.declared.request.RequestParts.{RequestParts}
+use Rattle.resource_model.specs.Home.{HomeData}
 use Rattle.resource_model.specs.Resource.{ResourceData, has_number, is_ty}
 use Rattle.subscription_match.specs.Notices.{notes_of_all}
 use Rattle.subscription_match.specs.declared.drafts.DraftParts.{DraftParts}
-use Rattle.tree_model.specs.Changes.{ChangeData, creation_changes, deletion_changes, update_changes}
+use Rattle.tree_model.specs.Changes.{ChangeData, creation_changes, deletion_changes}
+use Rattle.tree_model.specs.Changes.{removal_changes, update_changes}
 use Rattle.tree_model.specs.Tree.{at, is_at_or_below, line_of, numbers_of, without}
 use Rattle.announce_copy.specs.Below.{lists_peers}
+use Rattle.announce_copy.specs.Copies.{copies_of_all}
 use Rattle.entity_model.specs.Entity.{EntityData, telling}
 use Rattle.entity_model.specs.Places.{Effect, on_found, unless_refused}
 use Rattle.request_rules.specs.Order.{places}
@@ -32,6 +35,13 @@ joined_told e r f =
 abbrev pub copies_may_follow : ResourceData → ResourceData → Bool
 copies_may_follow parent r =
     if is_ty r.ty ContentInstance then lists_peers parent else lists_peers r
+
+-- No copy follows where those of these numbers go, unless the resource of the other number lists a
+-- CSE in `at`. So it is of instances that a container pushes out.
+abbrev pub GoUnsent : HomeData → List ResourceData → ℕ → List ℕ → Type 0
+GoUnsent home nodes n gone =
+    (r : ResourceData) → at n nodes ≡ Some r → lists_peers r ≡ false
+    → copies_of_all home nodes (removal_changes nodes gone) ≡ []
 
 -- the entity in which the second resource is the first one after an Update of these attributes, and
 -- those of these numbers are pushed out, told of both

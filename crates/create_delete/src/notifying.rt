@@ -1,7 +1,7 @@
 //! What an operation tells subscriptions (TS-0001, 9.6.8), and sends to where copies of resources
 //! stand (9.6.26), before anything is changed.
 ghost use Rattle.std.specs.Prelude.{◌≡◌, ℕ, ◌≤◌, List, [], length, false, IfOk, IsTrue, Some};
-ghost use Rattle.m2m_names.specs.declared.attributes.Attr.{Attr};
+ghost use Rattle.announce_copy.specs.Below.{lists_peers};
 ghost use Rattle.resource_model.specs.Home.{HomeData};
 ghost use Rattle.resource_model.specs.Resource.{ResourceData};
 ghost use Rattle.subscription_match.specs.Notices.{notes_of_all};
@@ -83,7 +83,9 @@ fn is_unwatched<T: Tree>(tree: &T, number: u64) -> bool
 }
 
 /// What an Update of these attributes tells that leaves a resource so and pushes out the instances
-/// of these numbers, with room for it in the outbox: nothing, where the resource isn't there.
+/// of these numbers, with room for it in the outbox: nothing, where the resource isn't there. Where
+/// it lists no CSE in `at`, no copy follows it, nor what it pushes out; and where no subscription
+/// stands under it, nobody is told of that.
 pub(crate) fn prepare_update<T: Tree>(
     alloc: Global,
     tree: &T,
@@ -93,7 +95,11 @@ pub(crate) fn prepare_update<T: Tree>(
     named: &AttrSet,
     gone: &[u64],
 ) -> Result<Told, OutOfMemory>
-    requires { DoAscend gone.now }
+    requires order { DoAscend gone.now }
+    requires unheard { (r : ResourceData) → subs_of resource.now.number (T.nodes tree.now) ≡ []
+        → notes_of_all home.now (T.nodes tree.now) gone.now
+        (update_changes (T.nodes tree.now) r resource.now named.now gone.now) ≡ [] }
+    requires unsent { spec.GoUnsent home.now (T.nodes tree.now) resource.now.number gone.now }
     ensures told { (r : ResourceData) → at resource.now.number (T.nodes tree.now) ≡ Some r
         → IfOk result (IsTold home.now (T.nodes tree.now) gone.now
         (update_changes (T.nodes tree.now) r resource.now named.now gone.now)) }
@@ -104,27 +110,25 @@ pub(crate) fn prepare_update<T: Tree>(
     match tree.get(resource.number()) {
         Some(before) => {
             let changes = Changes::of_update(tree, before, resource, named, gone);
-            if is_unsent(before, resource, gone) {
-                return prepare_uncopied(alloc, tree, home, outbox, gone, changes);
+            if !is_unannounced(before, resource) {
+                let again = Changes::of_update(tree, before, resource, named, gone);
+                return prepare_telling(alloc, tree, home, outbox, gone, changes, again);
             }
-            let again = Changes::of_update(tree, before, resource, named, gone);
-            prepare_telling(alloc, tree, home, outbox, gone, changes, again)
+            if is_unwatched(tree, resource.number()) {
+                return Ok(nothing_told(alloc));
+            }
+            prepare_uncopied(alloc, tree, home, outbox, gone, changes)
         }
         None => Ok(nothing_told(alloc)),
     }
 }
 
-// Whether it is sure that no copy follows an Update of a resource: neither as it was nor as it is
-// now does that list a CSE in `at`, and no instances are pushed out.
-fn is_unsent(before: &Resource, after: &Resource, gone: &[u64]) -> bool
-    ensures { IsTrue result → (home : HomeData) (nodes : List ResourceData) (named : List Attr)
-        → copy_requests home nodes (update_changes nodes before.now after.now named gone.now)
-        ≡ [] }
+// Whether a resource lists no CSE in `at`, neither as it was nor as it is now.
+fn is_unannounced(before: &Resource, after: &Resource) -> bool
+    ensures before { IsTrue result → lists_peers before.now ≡ false }
+    ensures after { IsTrue result → lists_peers after.now ≡ false }
 {
-    if !gone.is_empty() || lists_peers(before) || lists_peers(after) {
-        return false;
-    }
-    true
+    !lists_peers(before) && !lists_peers(after)
 }
 
 /// What the deletion of the resource of a number tells, with room for it in the outbox. Where no

@@ -1,6 +1,7 @@
-use Rattle.std.proofs.Common.{◌≡◌, ◌≤◌, ℕ, List, Some, true, sym, ap, ◌∙◌, subst}
+use Rattle.std.proofs.Common.{◌≡◌, ◌≤◌, ℕ, List, [], Some, true, sym, ap, ◌∙◌, subst}
 use Rattle.std.specs.List.{AllByRecursion}
 use Rattle.notify_outbox.specs.declared.item.Item.{Item}
+use Rattle.subscription_match.specs.Notices.{notes_of_all}
 use Rattle.tree_model.specs.Changes.{update_changes}
 use Rattle.tree_model.specs.Tree.{at, is_tree, DoAscend}
 use Rattle.tree_model.proofs.GrowthLemmas.{tree_from_well_formed}
@@ -10,20 +11,36 @@ use Rattle.entity_model.specs.Telling.{IsTold}
 use Rattle.entity_model.proofs.WaitingLemmas.{waiting_each}
 use Rattle.create_delete.specs.Changing.{nodes_updated, pushed_by}
 use Rattle.create_delete.specs.NewResource.{IsReplacement}
-use Rattle.create_delete.specs.Telling.{updated_told}
+use Rattle.create_delete.specs.Telling.{GoUnsent, updated_told}
 use Rattle.create_delete.proofs.CarriedLemmas.{appended, updated_carried, updated_told_sound}
 use Rattle.create_delete.proofs.PushingLemmas.{pushed_ascend}
 use Rattle.create_delete.proofs.ReplacedLemmas.{stood_there}
+use Rattle.create_delete.proofs.UnheardLemmas.{unheard_updated}
+use Rattle.create_delete.proofs.UnsentLemmas.{pushed_unsent}
 use Rattle.create_delete.proofs.UpdatedLemmas.{sound_updated, updated_after}
 use Rattle.create_delete.proofs.updating.apply.Goals as goal
 
-pub prepare_update-requires : goal.prepare_update-requires
-prepare_update-requires g c =
+pub prepare_update-requires-clause-order : goal.prepare_update-requires-clause-order
+prepare_update-requires-clause-order g c =
     let before : EntityData = record { home = c.entity.inside.home; nodes = g.T.Tree.nodes c.entity.inside.tree; next = c.entity.inside.next; last = c.entity.inside.last; items = c.entity.inside.outbox.items; numbered = c.entity.inside.outbox.count } in
     let now = c.args.prepared.resource in
-    let may : IsReplacement before now = subst (λ (e : EntityData). IsReplacement e now) (sym c.entity.view_is) c.requires.may in
     let gone : c.args.prepared.gone ≡ pushed_by before now = subst (λ (e : EntityData). c.args.prepared.gone ≡ pushed_by e now) (sym c.entity.view_is) c.requires.gone in
     subst DoAscend (sym (c.entries.ensures ∙ gone)) (pushed_ascend before now (tree_from_well_formed before.nodes c.entity.invariant.tree))
+
+-- where no subscription stands under it, nobody is told
+pub prepare_update-requires-clause-unheard : goal.prepare_update-requires-clause-unheard
+prepare_update-requires-clause-unheard g c r beside =
+    let before : EntityData = record { home = c.entity.inside.home; nodes = g.T.Tree.nodes c.entity.inside.tree; next = c.entity.inside.next; last = c.entity.inside.last; items = c.entity.inside.outbox.items; numbered = c.entity.inside.outbox.count } in
+    let now = c.args.prepared.resource in
+    let gone : c.args.prepared.gone ≡ pushed_by before now = subst (λ (e : EntityData). c.args.prepared.gone ≡ pushed_by e now) (sym c.entity.view_is) c.requires.gone in
+    subst (λ (ns : List ℕ). notes_of_all before.home before.nodes ns (update_changes before.nodes r now c.args.prepared.named ns) ≡ []) (sym (c.entries.ensures ∙ gone)) (unheard_updated before now r c.args.prepared.named c.entity.invariant beside)
+
+pub prepare_update-requires-clause-unsent : goal.prepare_update-requires-clause-unsent
+prepare_update-requires-clause-unsent g c =
+    let before : EntityData = record { home = c.entity.inside.home; nodes = g.T.Tree.nodes c.entity.inside.tree; next = c.entity.inside.next; last = c.entity.inside.last; items = c.entity.inside.outbox.items; numbered = c.entity.inside.outbox.count } in
+    let now = c.args.prepared.resource in
+    let gone : c.args.prepared.gone ≡ pushed_by before now = subst (λ (e : EntityData). c.args.prepared.gone ≡ pushed_by e now) (sym c.entity.view_is) c.requires.gone in
+    subst (GoUnsent before.home before.nodes now.number) (sym (c.entries.ensures ∙ gone)) (pushed_unsent before now (tree_from_well_formed before.nodes c.entity.invariant.tree))
 
 pub remove_all-requires : goal.remove_all-requires
 remove_all-requires g c =
