@@ -4,3 +4,4 @@ pub mod HeaderLemmas
 pub mod InnerLemmas
 pub mod LineLemmas
 pub mod SpelledLemmas
+pub mod PrimitiveLemmas

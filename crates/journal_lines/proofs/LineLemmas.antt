@@ -1,10 +1,7 @@
 -- The lines of a deed are read back as it.
-use Rattle.std.proofs.Common.{◌≡◌, ℕ, zero, suc, ◌+◌, ◌^◌, ◌==◌, ◌<◌, ◌≤◌, nat_le, nat_lt, List, [], ◌∷◌, ◌++◌, length, take, drop, Bool, true, false, not, ◌&&◌, cond, if◌then◌else◌, Option, Some, None, option_map, option_and_then, Result, Ok, Err, IfSome, is_none, is_some, inl, inr, decimal, refl, sym, ap, ◌∙◌, subst, arith, append_assoc, length-append, lt-ltb, le-leb}
-use Rattle.std.proofs.lemmas.Bool.{and_from, and_parts, cases_Bool, leb-true, ltb-true}
-use Rattle.std.proofs.lemmas.Bool.Decides.{nat_tests}
+use Rattle.std.proofs.Common.{◌≡◌, ℕ, ◌^◌, ◌<◌, List, ◌++◌, length, true, ◌&&◌, if◌then◌else◌, Option, Some, None, option_map, option_and_then, Ok, IfSome, is_none, decimal, refl, ap, ◌∙◌, arith, lt-ltb, le-leb}
+use Rattle.std.proofs.lemmas.Bool.{and_parts, leb-true, ltb-true}
 use Rattle.std.proofs.lemmas.Fmt.{digits_decimal, digits_value-decimal, decimal_nonempty, length-decimal-le}
-use Rattle.std.proofs.lemmas.List.{take_at, drop_at}
-use Rattle.std.proofs.lemmas.Option.{cond_some}
 use Rattle.std.specs.Char.{is_ascii_digit}
 use Rattle.std.specs.List.{list_all}
 use Rattle.std.specs.Option.{option_map_or}
@@ -12,12 +9,13 @@ use Rattle.std.specs.Result.{result_ok}
 use Rattle.std.specs.Str.Parse.{digits_value}
 use Rattle.m2m_names.proofs.NumeralLemmas.{own}
 use Rattle.m2m_names.specs.Name.{is_filled, is_numeral, is_originator}
-use Rattle.m2m_value.specs.Data.{Data, depth}
-use Rattle.m2m_value.specs.Reading.{reading, reading_depth}
+use Rattle.m2m_value.specs.Reading.{reading}
+use Rattle.m2m_value.specs.Sound.{IsSound}
 use Rattle.m2m_value.specs.Spelling.{text_of}
+use Rattle.m2m_value.proofs.RoundTrip.{reading-text_of}
 use Rattle.primitive_json.proofs.RoundTrip.{request_back}
 use Rattle.primitive_json.specs.Form.{has_form, has_no_more}
-use Rattle.primitive_json.specs.Kinds.{number_spelled, numeral_limit, target_limit}
+use Rattle.primitive_json.specs.Kinds.{number_spelled, target_limit}
 use Rattle.primitive_json.specs.Reading.{read_request}
 use Rattle.primitive_json.specs.Laws.{HasShortExpiry, IsOfKinds, IsShortWhen, IsWhenOfKind}
 use Rattle.primitive_json.specs.Writing.{written_request}
@@ -26,14 +24,13 @@ use Rattle.primitive_json.specs.declared.request.When.{When}
 use Rattle.primitive_json.specs.declared.request.When.TheVariants.{At, Millis}
 use Rattle.filter_criteria.specs.Laws.{IsFilterOfKinds}
 use Rattle.filter_criteria.specs.declared.filter.FilterParts.{FilterParts}
-use Rattle.journal_lines.specs.Keeping.{can_be_kept, is_of_kinds, is_shallow, is_short_when, kept_value}
-use Rattle.journal_lines.specs.Lines.{IsReadBack, behind_line, dated_lines, deed_at, deed_in, deed_len, deed_of, ended, first_deed, first_line, has_line, is_inner, line_len, lines_of, moment_bound, moment_line, moment_of, word_of}
+use Rattle.journal_lines.specs.Keeping.{can_be_kept, is_of_kinds, is_shallow, is_short_when}
+use Rattle.journal_lines.specs.Lines.{IsReadBack, dated_lines, deed_at, deed_in, deed_len, deed_of, first_deed, is_inner, lines_of, moment_bound, moment_line, moment_of, word_of}
 use Rattle.journal_lines.specs.declared.deed.Deed.{Deed}
 use Rattle.journal_lines.specs.declared.deed.Deed.TheVariants.{Ask, Take, Tick}
-use Rattle.journal_lines.specs.declared.deed.Dated.{Dated}
 use Rattle.journal_lines.specs.Spelled.{SpellsDated, SpellsDeed}
 use Rattle.journal_lines.proofs.EndLemmas.{inner_whole}
-use Rattle.journal_lines.proofs.InnerLemmas.{inner_append, inner_decimal, inner_text}
+use Rattle.journal_lines.proofs.InnerLemmas.{inner_decimal, inner_text}
 use Rattle.journal_lines.proofs.SpelledLemmas.{deed_read}
 
 -- ---- words
@@ -134,20 +131,8 @@ kept_back r kept back =
     ap (λ d. option_map Ask (option_and_then (λ v. result_ok (read_request v)) (result_ok d))) back
     ∙ ap (λ d. option_map Ask (result_ok d)) (request_back r kinds.0 kinds.1)
 
--- what is written of one that can be kept is there, and else nothing
-pub kept_some : (r : RequestParts) → is_some (kept_value r) ≡ can_be_kept r
-kept_some r = elim (cases_Bool (can_be_kept r)) [
-  | inl t ↦ rw t refl
-  | inr f ↦ rw f refl
-]
-
-pub kept_if : (r : RequestParts) (d : Data) → kept_value r ≡ Some d → (can_be_kept r ≡ true) × (d ≡ written_request r)
-kept_if r d some = let parts = cond_some (can_be_kept r) (written_request r) d some in (parts.0, sym parts.1)
-
-pub kept_reads : (r : RequestParts) (d : Data) → kept_value r ≡ Some d
-    → (depth d ≤ reading_depth → reading (text_of d) ≡ Ok d) → IsReadBack (Ask r)
-kept_reads r d some back =
-    let k = kept_if r d some in
-    let parts = and_parts (is_of_kinds r) (is_shallow r) k.0 in
-    let deep : depth d ≤ reading_depth = subst (λ v. depth v ≤ reading_depth) (sym k.1) (leb-true _ _ parts.1) in
-    kept_back r parts.0 (subst (λ v. reading (text_of v) ≡ Ok v) k.1 (back deep))
+-- one that can be kept is read back, where what is written of it is sound
+pub kept_reads : (r : RequestParts) → can_be_kept r ≡ true → IsSound (written_request r) → IsReadBack (Ask r)
+kept_reads r can sound =
+    let parts = and_parts (is_of_kinds r) (is_shallow r) can in
+    kept_back r parts.0 (reading-text_of (written_request r) sound (leb-true _ _ parts.1))

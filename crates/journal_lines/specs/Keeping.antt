@@ -1,10 +1,9 @@
 -- Which requests can be kept: those that are read back from what is written of them.
-use Rattle.std.specs.Prelude.{ℕ, ◌^◌, nat_le, nat_lt, Bool, true, ◌&&◌, is_none, Option, Some, None}
-use Rattle.std.specs.Prelude.{if◌then◌else◌}
+use Rattle.std.specs.Prelude.{◌^◌, nat_le, nat_lt, Bool, true, ◌&&◌, is_none}
 use Rattle.std.specs.Option.{option_map_or}
 use Rattle.m2m_names.specs.Name.{is_filled, is_originator}
 use Rattle.m2m_names.specs.Stamps.{last_moment}
-use Rattle.m2m_value.specs.Data.{Data, depth}
+use Rattle.m2m_value.specs.Data.{depth}
 use Rattle.m2m_value.specs.Reading.{reading_depth}
 use Rattle.primitive_json.specs.Form.{has_form, has_no_more}
 use Rattle.primitive_json.specs.Kinds.{numeral_limit, target_limit}
@@ -33,7 +32,3 @@ is_shallow r = nat_le (depth (written_request r)) reading_depth
 -- The request can be kept.
 abbrev pub can_be_kept : RequestParts → Bool
 can_be_kept r = is_of_kinds r && is_shallow r
-
--- What is written of it, if it can be kept.
-abbrev pub kept_value : RequestParts → Option Data
-kept_value r = if can_be_kept r then Some (written_request r) else None

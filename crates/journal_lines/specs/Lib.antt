@@ -3,3 +3,4 @@ pub mod Keeping
 pub mod Laws
 pub mod Lines
 pub mod Spelled
+pub mod Primitive

@@ -1,11 +1,9 @@
 //! Which requests can be kept.
-ghost use Rattle.std.specs.Prelude.{◌≡◌, nat_le, true, IfOk};
+ghost use Rattle.std.specs.Prelude.{◌≡◌, nat_le, true};
 ghost use Rattle.std.specs.Option.{option_map_or};
 ghost use Rattle.m2m_names.specs.Name as names;
 ghost use Rattle.m2m_value.specs.Data.{depth};
-ghost use Rattle.m2m_value.specs.Reading.{reading_depth};
 ghost use Rattle.primitive_json.specs.Form as form;
-ghost use Rattle.primitive_json.specs.Writing.{written_request};
 ghost use Rattle.journal_lines.specs.Keeping as spec;
 
 use crate::shallow::is_within;
@@ -13,9 +11,8 @@ use m2m_names::{is_filled, is_originator};
 use m2m_value::Val;
 use primitive_json::{
     Request, RequestParts, TARGET_LIMIT, When, creates, has_content, has_form, has_result,
-    is_moment, write_request,
+    is_moment,
 };
-use std::alloc::{AllocError as OutOfMemory, Global};
 
 /// The most digits of a number of milliseconds.
 const SHORT_BOUND: u64 = 1_000_000_000_000_000_000;
@@ -70,34 +67,20 @@ fn is_of_kinds(request: &Request) -> bool
         && parts.fc.is_none()
 }
 
-/// What is written of the request, and whether that is no deeper than a text is read.
-fn written(alloc: Global, request: &Request) -> Result<(Val, bool), OutOfMemory>
-    ensures { IfOk result (λ w. (w.0 ≡ written_request request.now)
-        × (w.1 ≡ nat_le (depth w.0) reading_depth)) }
+/// Whether the content is so shallow that a text is read as deep as what is written of the request.
+fn is_shallow_content(content: &Option<Val>) -> bool
+    ensures { result ≡ option_map_or (λ d. nat_le (depth d) 126) content.now true }
 {
-    let value = write_request(alloc, request)?;
-    let is_shallow = is_within(&value, READING_DEPTH);
-    Ok((value, is_shallow))
-}
-
-/// What is written of the request, if it can be kept: if it is then read back as it was.
-pub(crate) fn kept_value(alloc: Global, request: &Request) -> Result<Option<Val>, OutOfMemory>
-    ensures { IfOk result (λ v. v ≡ spec.kept_value request.now) }
-{
-    if !is_of_kinds(request) {
-        return Ok(None);
-    }
-    let (value, is_shallow) = written(alloc, request)?;
-    if is_shallow {
-        Ok(Some(value))
-    } else {
-        Ok(None)
+    match content {
+        Some(value) => is_within(value, READING_DEPTH - 1),
+        None => true,
     }
 }
 
 /// Whether the request can be kept.
-pub fn can_be_kept(alloc: Global, request: &Request) -> Result<bool, OutOfMemory>
-    ensures { IfOk result (λ can. can ≡ spec.can_be_kept request.now) }
+#[tactic(auto, using(crate::proofs::PrimitiveLemmas::kept_by))]
+pub fn can_be_kept(request: &Request) -> bool
+    ensures { result ≡ spec.can_be_kept request.now }
 {
-    Ok(kept_value(alloc, request)?.is_some())
+    is_of_kinds(request) && is_shallow_content(&request.parts().pc)
 }

@@ -29,6 +29,7 @@ mod deed;
 mod header;
 mod keeping;
 mod laws;
+mod primitive;
 mod reading;
 mod shallow;
 mod writing;

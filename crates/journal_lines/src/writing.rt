@@ -7,12 +7,18 @@ ghost use Rattle.journal_lines.specs.Lines.{IsReadBack};
 ghost use Rattle.journal_lines.specs.declared.deed.Deed.TheVariants.{Ask, Take, Tick};
 ghost use Rattle.m2m_value.specs.Data.{depth};
 ghost use Rattle.m2m_value.specs.Reading.{reading, reading_depth};
+ghost use Rattle.m2m_value.specs.Sound.{IsSound};
 ghost use Rattle.m2m_value.specs.Spelling.{text_of};
+ghost use Rattle.primitive_json.specs.Writing.{written_request};
 
-use crate::keeping::kept_value;
+use crate::keeping::can_be_kept;
+use crate::primitive::push_primitive;
 use m2m_value::{Val, write};
 use primitive_json::Request;
 use std::alloc::{AllocError as OutOfMemory, Global};
+
+/// For so many bytes a line has room at first, which is more than most have.
+const LINE_ROOM: usize = 512;
 
 /// Why the lines of a request aren't written.
 #[derive(Clone, Copy, Debug, PartialEq, Eq)]
@@ -75,15 +81,22 @@ pub fn push_value(text: &mut Vec<u8>, value: &Val) -> Result<(), OutOfMemory>
 }
 
 /// The two lines of a request.
-fn push_both(text: &mut Vec<u8>, moment: u64, value: &Val) -> Result<(), OutOfMemory>
-    requires { moment < spec.moment_bound }
-    ensures written { OnOk result (text.new.items ≡ text.old.items
-        ++ (spec.ended (spec.moment_line moment) ++ spec.ended (text_of value.now))) }
-    ensures reads_back { OnOk result (depth value.now ≤ reading_depth
-        → reading (text_of value.now) ≡ Ok value.now) }
+fn push_both(
+    alloc: Global,
+    text: &mut Vec<u8>,
+    moment: u64,
+    request: &Request,
+) -> Result<(), OutOfMemory>
+    requires small { moment < spec.moment_bound }
+    requires kinds { keeping.is_of_kinds request.now ≡ true }
+    ensures written { OnOk result
+        (text.new.items ≡ text.old.items ++ spec.dated_lines moment (Ask request.now)) }
+    ensures sound { OnOk result (IsSound (written_request request.now)) }
 {
     push_moment(text, moment)?;
-    push_value(text, value)
+    push_primitive(alloc, text, request)?;
+    text.push(b'\n')?;
+    Ok(())
 }
 
 /// The mark and the two lines of a word.
@@ -97,23 +110,24 @@ fn push_words(text: &mut Vec<u8>, moment: u64, word: &[u8]) -> Result<(), OutOfM
     push_word(text, word)
 }
 
-/// Appends a mark and the lines of a value, or leaves the text as it was.
+/// Appends a mark and the two lines of a request, or leaves the text as it was.
 fn push_lines(
     alloc: Global,
     text: &mut Vec<u8>,
     mark: &[u8],
     moment: u64,
-    value: &Val,
+    request: &Request,
 ) -> Result<(), OutOfMemory>
-    requires { moment < spec.moment_bound }
-    ensures written { OnOk result (text.new.items ≡ text.old.items ++ (mark.now
-        ++ (spec.ended (spec.moment_line moment) ++ spec.ended (text_of value.now)))) }
-    ensures reads_back { OnOk result (depth value.now ≤ reading_depth
-        → reading (text_of value.now) ≡ Ok value.now) }
+    requires small { moment < spec.moment_bound }
+    requires kinds { keeping.is_of_kinds request.now ≡ true }
+    ensures written { OnOk result (text.new.items
+        ≡ text.old.items ++ (mark.now ++ spec.dated_lines moment (Ask request.now))) }
+    ensures sound { OnOk result (IsSound (written_request request.now)) }
     ensures err { OnErr result (text.new.items ≡ text.old.items) }
 {
-    let mut line = Vec::from_slice(alloc, mark)?;
-    push_both(&mut line, moment, value)?;
+    let mut line = Vec::with_capacity(alloc, LINE_ROOM)?;
+    line.extend_from_slice(mark)?;
+    push_both(alloc, &mut line, moment, request)?;
     text.extend_from_slice(&line)
 }
 
@@ -133,10 +147,10 @@ fn push_marked(
     ensures unkept { IsErrOf result LineFault.Unkept → keeping.can_be_kept request.now ≡ false }
     ensures kept { OnOk result (keeping.can_be_kept request.now ≡ true) }
 {
-    let Some(value) = kept_value(alloc, request)? else {
+    if !can_be_kept(request) {
         return Err(LineFault::Unkept);
-    };
-    push_lines(alloc, text, mark, moment, &value)?;
+    }
+    push_lines(alloc, text, mark, moment, request)?;
     Ok(())
 }
 
