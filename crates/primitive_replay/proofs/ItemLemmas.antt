@@ -12,8 +12,10 @@ use Rattle.notify_outbox.specs.Items.{is_item}
 use Rattle.notify_outbox.specs.Outbox.{without_first}
 use Rattle.notify_outbox.specs.declared.item.Item.{Item}
 use Rattle.entity_model.specs.Entity.{EntityData}
-use Rattle.primitive_replay.specs.Script.{Replays, Writes, WritesBeforeItem, WritesReplies, WritesScript, lines_of_items, lines_of_replies, note_line, script}
+use Rattle.primitive_replay.specs.Script.{Replays, Writes, WritesBeforeItem, WritesReplies, WritesScript, lines_of_items, lines_of_replies, note_line, reply_line, script}
+use Rattle.primitive_replay.specs.Together.{PutsWithin, WritesAll}
 use Rattle.primitive_replay.specs.Way.{PutsFront, ReplaysFrom, WritesText}
+use Rattle.primitive_replay.proofs.TogetherLemmas.{PutsWithin-append, within}
 
 -- ---- the first item
 
@@ -69,12 +71,14 @@ fewer left more x now is are =
 no_replies : (n : ℕ) → n ≡ length {A = ReplyParts} [] + n
 no_replies n = omega arith
 
+items_within : (whole : List Item) (old new : SinkTold) → Puts (lines_of_items whole) (length whole) old new → PutsWithin (script [] whole) (length {A = ReplyParts} [] + length whole) old new
+items_within whole old new said = within (lines_of_items whole) (length whole) (length {A = ReplyParts} [] + length whole) old new (omega arith) said
+
 -- all were put
 pub front_all : (items left : List Item) (old new : SinkTold) → left ≡ [] → PutsFront items left old new → WritesScript Done [] items old new
 front_all items left old new none front =
     let all : items ≡ front.whole = front.items_are ∙ ap (λ v. front.whole ++ v) none ∙ append-nil front.whole in
-    subst (λ (v : List Item). Puts (script [] v) (length {A = ReplyParts} [] + length v) old new) (sym all)
-    (subst (λ (n : ℕ). Puts (lines_of_items front.whole) n old new) (no_replies (length front.whole)) front.said)
+    subst (λ (v : List Item). PutsWithin (script [] v) (length {A = ReplyParts} [] + length v) old new) (sym all) (items_within front.whole old new front.said)
 
 before_item : (items left more : List Item) (x : Item) (old mid : SinkTold) → left ≡ x ∷ more → PutsFront items left old mid → WritesBeforeItem [] items old mid
 before_item items left more x old mid is front = record {
@@ -82,7 +86,7 @@ before_item items left more x old mid is front = record {
   next = x;
   later = more;
   items_are = front.items_are ∙ ap (λ v. front.whole ++ v) is;
-  said = subst (λ (n : ℕ). Puts (lines_of_items front.whole) n old mid) (no_replies (length front.whole)) front.said;
+  said = items_within front.whole old mid front.said;
 }
 
 -- the first of those that are left ended it
@@ -99,7 +103,7 @@ front_ends WriteFault items left more x note old mid new is same front said = re
     next = x;
     later = more;
     items_are = front.items_are ∙ ap (λ v. front.whole ++ v) is;
-    said = subst (λ (n : ℕ). Puts (lines_of_items front.whole) n old mid) (no_replies (length front.whole)) front.said;
+    said = items_within front.whole old mid front.said;
   };
   part = subst (λ (n : NoteParts). PutsPart (note_line n) mid new) (sym same) said;
 }
@@ -109,13 +113,13 @@ front_ends BadStream items left more x note old mid new is same front said = abs
 
 -- ---- behind the replies
 
-puts_behind : (replies : List ReplyParts) (whole : List Item) (old mid new : SinkTold) → Puts (lines_of_replies replies) (length replies) old mid
-    → Puts (script [] whole) (length {A = ReplyParts} [] + length whole) mid new → Puts (script replies whole) (length replies + length whole) old new
+puts_behind : (replies : List ReplyParts) (whole : List Item) (old mid new : SinkTold) → WritesAll reply_line replies old mid
+    → PutsWithin (script [] whole) (length {A = ReplyParts} [] + length whole) mid new → PutsWithin (script replies whole) (length replies + length whole) old new
 puts_behind replies whole old mid new a b =
-    subst (λ (n : ℕ). Puts (script replies whole) (length replies + n) old new) (sym (no_replies (length whole)))
-    (Puts-append old mid new (lines_of_replies replies) (lines_of_items whole) (length replies) (length {A = ReplyParts} [] + length whole) a b)
+    subst (λ (n : ℕ). PutsWithin (script replies whole) (length replies + n) old new) (sym (no_replies (length whole)))
+    (PutsWithin-append old mid new (lines_of_replies replies) (lines_of_items whole) (length replies) (length {A = ReplyParts} [] + length whole) a b)
 
-abbrev before_behind : (replies : List ReplyParts) (items : List Item) (old mid new : SinkTold) → Puts (lines_of_replies replies) (length replies) old mid
+abbrev before_behind : (replies : List ReplyParts) (items : List Item) (old mid new : SinkTold) → WritesAll reply_line replies old mid
     → WritesBeforeItem [] items mid new → WritesBeforeItem replies items old new
 before_behind replies items old mid new a b = record {
   whole = b.whole;
@@ -125,7 +129,7 @@ before_behind replies items old mid new a b = record {
   said = puts_behind replies b.whole old mid new a b.said;
 }
 
-script_behind : (status : Status) (replies : List ReplyParts) (items : List Item) (old mid new : SinkTold) → Puts (lines_of_replies replies) (length replies) old mid
+script_behind : (status : Status) (replies : List ReplyParts) (items : List Item) (old mid new : SinkTold) → WritesAll reply_line replies old mid
     → WritesScript status [] items mid new → WritesScript status replies items old new
 script_behind Done replies items old mid new a b = puts_behind replies items old mid new a b
 script_behind Usage replies items old mid new a b = absurd b

@@ -3,6 +3,7 @@ pub mod LineLemmas
 pub mod LimitLemmas
 pub mod StandLemmas
 pub mod NextLemmas
+pub mod TogetherLemmas
 pub mod WayLemmas
 pub mod TurnLemmas
 pub mod ItemLemmas

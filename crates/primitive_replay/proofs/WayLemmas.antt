@@ -1,13 +1,11 @@
 -- Lines on their way, joined with what comes next.
-use Rattle.std.proofs.Common.{◌≡◌, ℕ, ◌+◌, List, [], ◌∷◌, ◌++◌, length, map, Option, Some, None, IfSome, inl, inr, refl, sym, ap, subst, ◌∙◌, arith, append_assoc, length-append}
+use Rattle.std.proofs.Common.{◌≡◌, ℕ, ◌+◌, List, [], ◌∷◌, ◌++◌, length, map, Option, Some, None, IfSome, refl, sym, ap, subst, ◌∙◌, arith, append_assoc, length-append}
 use Rattle.std.proofs.lemmas.List.{map-append}
 use Rattle.std.proofs.lemmas.List.Elements.{filter_map-append}
-use Rattle.std.proofs.lemmas.Grind.{flat_map-append}
 use Rattle.std.specs.Str.Lines.{lines}
 use Rattle.m2m_io.specs.Link.{Carrying}
-use Rattle.cse_server.specs.Outside.{LinkTold, Outside, Puts, SinkTold}
+use Rattle.cse_server.specs.Outside.{LinkTold, Outside}
 use Rattle.m2m_io.specs.declared.status.Status.{Status}
-use Rattle.m2m_io.specs.declared.status.Status.TheVariants.{Done, Usage, BadLine, ReadFault, WriteFault, Memory, BadStream}
 use Rattle.primitive_json.specs.declared.reply.ReplyParts.{ReplyParts}
 use Rattle.primitive_json.specs.declared.request.RequestParts.{RequestParts}
 use Rattle.turn_desk.specs.Entries.{readings_of, events_of, outcomes_of}
@@ -19,12 +17,12 @@ use Rattle.cse_machine.specs.declared.event.Outcome.{Outcome}
 use Rattle.desk_replies.specs.Replies.{GivesReplies}
 use Rattle.desk_replies.proofs.RepliesLemmas.{gives-append}
 use Rattle.desk_replies.proofs.LinkLemmas.{CarriesEach-append}
-use Rattle.cse_server.proofs.PutLemmas.{Puts-append}
-use Rattle.primitive_replay.specs.Script.{request_on, requests_on, next_reading, reading_behind, readings_on, AsksLines, reply_line, lines_of_replies, WritesAllButLast, WritesPartOfLast, WritesReplies, StopsRightly}
+use Rattle.primitive_replay.specs.Script.{request_on, requests_on, next_reading, reading_behind, readings_on, AsksLines, StopsRightly}
 use Rattle.primitive_replay.specs.Stream.{AreLines, BeginsWithLines, LeadsTo}
-use Rattle.primitive_replay.specs.Way.{ReplaysFrom, ReplaysUpTo}
+use Rattle.primitive_replay.specs.Way.{EndsOn, ReplaysUpTo, StopsFrom}
 use Rattle.primitive_replay.specs.declared.line.Line.{Line}
 use Rattle.primitive_replay.specs.declared.line.Line.TheVariants.{Empty, Reading, Ask}
+use Rattle.primitive_replay.proofs.TogetherLemmas.{StandsOn-then}
 
 -- ---- requests and readings
 
@@ -76,11 +74,6 @@ LeadsTo-append place between xs ys (Some a) None rest places first then = absurd
 LeadsTo-append place between xs ys (Some a) (Some b) None places first then = absurd then
 LeadsTo-append place between xs ys (Some a) (Some b) (Some c) places first then = BeginsWithLines-append place between xs ys a b c places first then
 
--- what the stream says of an end
-abbrev EndsOn : ℕ → Status → List Line → Option (List ℕ) → List ℕ → Type 0
-EndsOn place status heard now bytes =
-    (rest : List ℕ) × BeginsWithLines place bytes heard rest × StopsRightly (place + length heard) status rest now
-
 stream_then : (place between : ℕ) (xs ys : List Line) (status : Status) (left mid now : Option (List ℕ)) → place + length xs ≡ between
     → LeadsTo place left xs mid → IfSome mid (EndsOn between status ys now) → IfSome left (EndsOn place status (xs ++ ys) now)
 stream_then place between xs ys status None mid now places first then = tt
@@ -125,63 +118,26 @@ asks-append reading now before between after t t' t'' xs ys reads a b = record {
   link = CarriesEach-append a.carried b.carried t t' t'' a.link b.link;
 }
 
--- ---- what is written
-
-said-append : (rs ss : List ReplyParts) (old put new : SinkTold) → Puts (lines_of_replies rs) (length rs) old put → Puts (lines_of_replies ss) (length ss) put new
-    → Puts (lines_of_replies (rs ++ ss)) (length (rs ++ ss)) old new
-said-append rs ss old put new a b =
-    subst (λ (n : ℕ). Puts (lines_of_replies (rs ++ ss)) n old new) (sym (length-append rs ss))
-    (subst (λ (v : List ℕ). Puts v (length rs + length ss) old new) (sym (flat_map-append reply_line rs ss))
-    (Puts-append old put new (lines_of_replies rs) (lines_of_replies ss) (length rs) (length ss) a b))
-
-abbrev less-append : (rs ss : List ReplyParts) (old put new : SinkTold) → Puts (lines_of_replies rs) (length rs) old put → WritesAllButLast ss put new → WritesAllButLast (rs ++ ss) old new
-less-append rs ss old put new a b = record {
-  whole = rs ++ b.whole;
-  last = b.last;
-  replies_are = ap (λ v. rs ++ v) b.replies_are ∙ sym (append_assoc rs b.whole (b.last ∷ []));
-  said = said-append rs b.whole old put new a b.said;
-}
-
-part-append : (rs ss : List ReplyParts) (old put new : SinkTold) → Puts (lines_of_replies rs) (length rs) old put → WritesPartOfLast ss put new → WritesPartOfLast (rs ++ ss) old new
-part-append rs ss old put new a b = record {
-  between = b.between;
-  before = less-append rs ss old put b.between a b.before;
-  part = b.part;
-}
-
-WritesReplies-then : (status : Status) (rs ss : List ReplyParts) (old put new : SinkTold) → Puts (lines_of_replies rs) (length rs) old put
-    → WritesReplies status ss put new → WritesReplies status (rs ++ ss) old new
-WritesReplies-then Done rs ss old put new a b = said-append rs ss old put new a b
-WritesReplies-then Usage rs ss old put new a b = absurd b
-WritesReplies-then (BadLine n) rs ss old put new a b = said-append rs ss old put new a b
-WritesReplies-then ReadFault rs ss old put new a b = said-append rs ss old put new a b
-WritesReplies-then WriteFault rs ss old put new a b = part-append rs ss old put new a b
-WritesReplies-then Memory rs ss old put new a b = elim b [
-  | inl all ↦ inl (said-append rs ss old put new a all)
-  | inr less ↦ inr (less-append rs ss old put new a less)
-]
-WritesReplies-then BadStream rs ss old put new a b = absurd b
-
 -- ---- what goes on, and then goes on or ends
 
-pub ReplaysUpTo-then : (place between next reading then now : ℕ) (before entity after : EntityData) (old mid new : Outside)
-    → ReplaysUpTo place between reading then before entity old mid → ReplaysUpTo between next then now entity after mid new
-    → ReplaysUpTo place next reading now before after old new
-ReplaysUpTo-then place between next reading then now before entity after old mid new a b = record {
+pub ReplaysUpTo-then : (place between next reading then now : ℕ) (before entity after : EntityData) (waited waits waiting : List ℕ) (old mid new : Outside)
+    → ReplaysUpTo place between reading then before entity waited waits old mid → ReplaysUpTo between next then now entity after waits waiting mid new
+    → ReplaysUpTo place next reading now before after waited waiting old new
+ReplaysUpTo-then place between next reading then now before entity after waited waits waiting old mid new a b = record {
   heard = a.heard ++ b.heard;
   asks = asks-append reading then before entity after old.link mid.link new.link a.heard b.heard a.reads a.asks b.asks;
   places = sym (joined_place place between a.heard b.heard a.places) ∙ b.places;
   reads = b.reads ∙ ap (λ n. reading_behind n b.heard) a.reads ∙ sym (reading_behind-append a.heard b.heard reading);
   stream = LeadsTo-append place between a.heard b.heard old.left mid.left new.left a.places a.stream b.stream;
-  said = said-append a.asks.replies b.asks.replies old.out mid.out new.out a.said b.said;
+  said = StandsOn-then None a.asks.replies b.asks.replies waited waits waiting old.out mid.out new.out a.said b.said;
 }
 
-pub Replays-then : (place between reading then : ℕ) (before entity after : EntityData) (old mid new : Outside) (status : Status)
-    → ReplaysUpTo place between reading then before entity old mid → ReplaysFrom between then entity after mid new status
-    → ReplaysFrom place reading before after old new status
-Replays-then place between reading then before entity after old mid new status a b = record {
+pub StopsFrom-then : (place between reading then : ℕ) (before entity after : EntityData) (waited waits waiting : List ℕ) (old mid new : Outside) (status : Status)
+    → ReplaysUpTo place between reading then before entity waited waits old mid → StopsFrom between then entity after waits waiting mid new status
+    → StopsFrom place reading before after waited waiting old new status
+StopsFrom-then place between reading then before entity after waited waits waiting old mid new status a b = record {
   heard = a.heard ++ b.heard;
   asks = asks-append reading then before entity after old.link mid.link new.link a.heard b.heard a.reads a.asks b.asks;
   stream = stream_then place between a.heard b.heard status old.left mid.left new.left a.places a.stream b.stream;
-  said = WritesReplies-then status a.asks.replies b.asks.replies old.out mid.out new.out a.said b.said;
+  said = StandsOn-then (Some status) a.asks.replies b.asks.replies waited waits waiting old.out mid.out new.out a.said b.said;
 }

@@ -1,10 +1,10 @@
 -- What is answered to lines, one after another.
-use Rattle.std.specs.Prelude.{◌≡◌, ◌⊎◌, ℕ, ◌+◌, List, [], ◌∷◌, ◌++◌, length, map, Option, Some}
-use Rattle.std.specs.Prelude.{None, IfSome, codes}
+use Rattle.std.specs.Prelude.{◌≡◌, ◌⊎◌, ℕ, ◌+◌, List, [], ◌∷◌, ◌++◌, length, map, Option}
+use Rattle.std.specs.Prelude.{Some, None, IfSome, codes}
 use Rattle.std.specs.List.{filter_map, flat_map}
 use Rattle.std.specs.Io.KnownBytes.{IsAtEnd}
 use Rattle.m2m_io.specs.Link.{Carrying}
-use Rattle.cse_server.specs.Outside.{LinkTold, Outside, Puts, PutsPart, SinkTold}
+use Rattle.cse_server.specs.Outside.{LinkTold, Outside, PutsPart, SinkTold}
 use Rattle.m2m_io.specs.declared.status.Status.{Status}
 use Rattle.m2m_io.specs.declared.status.Status.TheVariants.{Done, Usage, BadLine, ReadFault}
 use Rattle.m2m_io.specs.declared.status.Status.TheVariants.{WriteFault, Memory, BadStream}
@@ -25,6 +25,7 @@ use Rattle.cse_machine.specs.declared.event.Event.TheVariants.{Ask as AskEvent}
 use Rattle.desk_replies.specs.Replies.{CarriesEach, GivesReplies}
 use Rattle.primitive_replay.specs.Lines.{line_read}
 use Rattle.primitive_replay.specs.Stream.{BeginsWithLines, BeginsBadly, HoldsLittle, HoldsNoLine}
+use Rattle.primitive_replay.specs.Together.{PutsWithin, WritesAll, WritesAllButLast, WritesPart}
 use Rattle.primitive_replay.specs.declared.line.Line.{Line}
 use Rattle.primitive_replay.specs.declared.line.Line.TheVariants.{Empty, Reading, Ask}
 
@@ -106,41 +107,27 @@ lines_of_items items = flat_map (λ (item : Item). note_line item.note) items
 abbrev pub script : List ReplyParts → List Item → List ℕ
 script replies items = lines_of_replies replies ++ lines_of_items items
 
--- The lines of all these replies but the last one were written, each by one put.
-pub record WritesAllButLast (replies : List ReplyParts) (old new : SinkTold) : Type 0 where
-  pub whole : List ReplyParts
-  pub last : ReplyParts
-  pub replies_are : replies ≡ whole ++ last ∷ []
-  pub said : Puts (lines_of_replies whole) (length whole) old new
-
--- The lines of all replies but the last one were written, and of that one's line a part, by one put
--- more.
-pub record WritesPartOfLast (replies : List ReplyParts) (old new : SinkTold) : Type 0 where
-  pub between : SinkTold
-  pub before : WritesAllButLast replies old between
-  pub part : PutsPart (reply_line before.last) between new
-
--- What is written to lines that ended so, these being the replies to their requests: each line by
--- one put. Where memory ran out, all lines are written, or all but the last one, which isn't begun.
+-- What is written to lines that ended so, these being the replies to their requests: all their
+-- lines, in order, some by each put. Where memory ran out, all lines are written, or all but the
+-- last one.
 abbrev pub WritesReplies : Status → List ReplyParts → SinkTold → SinkTold → Type 0
-WritesReplies Done replies old new = Puts (lines_of_replies replies) (length replies) old new
+WritesReplies Done replies old new = WritesAll reply_line replies old new
 WritesReplies Usage replies old new = ⊥
-WritesReplies (BadLine n) replies old new =
-    Puts (lines_of_replies replies) (length replies) old new
-WritesReplies ReadFault replies old new = Puts (lines_of_replies replies) (length replies) old new
-WritesReplies WriteFault replies old new = WritesPartOfLast replies old new
+WritesReplies (BadLine n) replies old new = WritesAll reply_line replies old new
+WritesReplies ReadFault replies old new = WritesAll reply_line replies old new
+WritesReplies WriteFault replies old new = WritesPart reply_line replies old new
 WritesReplies Memory replies old new =
-    Puts (lines_of_replies replies) (length replies) old new ⊎ WritesAllButLast replies old new
+    WritesAll reply_line replies old new ⊎ WritesAllButLast reply_line replies old new
 WritesReplies BadStream replies old new = ⊥
 
--- The lines of all replies and of the items before this one were written, each by one put.
+-- The lines of all replies and of the items before this one were written, each item's by one put.
 pub record WritesBeforeItem (replies : List ReplyParts) (items : List Item) (old new : SinkTold)
     : Type 0 where
   pub whole : List Item
   pub next : Item
   pub later : List Item
   pub items_are : items ≡ whole ++ next ∷ later
-  pub said : Puts (script replies whole) (length replies + length whole) old new
+  pub said : PutsWithin (script replies whole) (length replies + length whole) old new
 
 -- The lines of all replies and of the items before one were written, and of that one's line a part,
 -- by one put more.
@@ -155,7 +142,7 @@ pub record WritesPartOfItem (replies : List ReplyParts) (items : List Item) (old
 -- memory ran out for one, whose line isn't begun.
 abbrev pub WritesScript : Status → List ReplyParts → List Item → SinkTold → SinkTold → Type 0
 WritesScript Done replies items old new =
-    Puts (script replies items) (length replies + length items) old new
+    PutsWithin (script replies items) (length replies + length items) old new
 WritesScript Usage replies items old new = ⊥
 WritesScript (BadLine n) replies items old new = ⊥
 WritesScript ReadFault replies items old new = ⊥

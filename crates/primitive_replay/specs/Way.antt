@@ -1,6 +1,6 @@
 -- Lines on their way: what its calls say of the lines so far.
-use Rattle.std.specs.Prelude.{◌≡◌, ℕ, ◌+◌, List, [], ◌∷◌, ◌++◌, length, Option, Some, None}
-use Rattle.std.specs.Prelude.{IfSome}
+use Rattle.std.specs.Prelude.{◌≡◌, ◌⊎◌, ℕ, ◌+◌, List, [], ◌∷◌, ◌++◌, length, Option}
+use Rattle.std.specs.Prelude.{Some, None, IfSome}
 use Rattle.m2m_io.specs.Link.{Carrying}
 use Rattle.cse_server.specs.Outside.{LinkTold, Outside, Puts, PutsPart, SinkTold}
 use Rattle.m2m_io.specs.declared.status.Status.{Status}
@@ -14,11 +14,10 @@ use Rattle.cse_machine.specs.Step.{Step}
 use Rattle.cse_machine.specs.declared.event.Event.TheVariants.{Ask as AskEvent}
 use Rattle.cse_machine.specs.declared.event.Outcome.{Outcome}
 use Rattle.desk_replies.specs.Replies.{CarriesEach, GivesReply}
-use Rattle.primitive_replay.specs.Script.{AsksLines, StopsRightly, WritesAllButLast}
-use Rattle.primitive_replay.specs.Script.{WritesPartOfLast, WritesReplies}
-use Rattle.primitive_replay.specs.Script.{lines_of_items, lines_of_replies, next_reading}
-use Rattle.primitive_replay.specs.Script.{reading_behind}
+use Rattle.primitive_replay.specs.Script.{AsksLines, StopsRightly, WritesReplies, lines_of_items}
+use Rattle.primitive_replay.specs.Script.{next_reading, reading_behind, reply_line}
 use Rattle.primitive_replay.specs.Stream.{BeginsWithLines, LeadsTo}
+use Rattle.primitive_replay.specs.Together.{KeepsBack, KeepsBackAllButLast, WritesPart}
 use Rattle.primitive_replay.specs.declared.fault.LineFault.{LineFault}
 use Rattle.primitive_replay.specs.declared.fault.LineFault.TheVariants.{Bad, ReadFault as Unread}
 use Rattle.primitive_replay.specs.declared.fault.LineFault.TheVariants.{OutOfMemory as Starved}
@@ -52,34 +51,76 @@ WritesText (Some WriteFault) text old new = PutsPart text old new
 WritesText (Some Memory) text old new = new ≡ old
 WritesText (Some BadStream) text old new = ⊥
 
--- what was written of these replies where none is told to have ended it, and else of the last one
-abbrev pub WritesOn : Option Status → List ReplyParts → SinkTold → SinkTold → Type 0
-WritesOn None replies old new = Puts (lines_of_replies replies) (length replies) old new
-WritesOn (Some Done) replies old new = ⊥
-WritesOn (Some Usage) replies old new = ⊥
-WritesOn (Some (BadLine n)) replies old new = ⊥
-WritesOn (Some ReadFault) replies old new = ⊥
-WritesOn (Some WriteFault) replies old new = WritesPartOfLast replies old new
-WritesOn (Some Memory) replies old new = WritesAllButLast replies old new
-WritesOn (Some BadStream) replies old new = ⊥
+-- How these replies stand where the lines go on, or end so and what waits isn't put yet: nothing
+-- waits where more was to be read.
+abbrev pub Stands : Option Status → List ReplyParts → List ℕ → SinkTold → SinkTold → Type 0
+Stands None replies waiting old new = KeepsBack reply_line replies waiting old new
+Stands (Some Done) replies waiting old new =
+    (waiting ≡ []) × KeepsBack reply_line replies waiting old new
+Stands (Some Usage) replies waiting old new = ⊥
+Stands (Some (BadLine n)) replies waiting old new = KeepsBack reply_line replies waiting old new
+Stands (Some ReadFault) replies waiting old new =
+    (waiting ≡ []) × KeepsBack reply_line replies waiting old new
+Stands (Some WriteFault) replies waiting old new = WritesPart reply_line replies old new
+Stands (Some Memory) replies waiting old new =
+    KeepsBack reply_line replies waiting old new
+    ⊎ KeepsBackAllButLast reply_line replies waiting old new
+Stands (Some BadStream) replies waiting old new = ⊥
+
+-- However replies stood before, with these behind them they stand so.
+abbrev pub StandsOn : Option Status → List ReplyParts → List ℕ → List ℕ → SinkTold → SinkTold
+    → Type 0
+StandsOn status replies before now old new =
+    (earlier : List ReplyParts) (start : SinkTold) → KeepsBack reply_line earlier before start old
+    → Stands status (earlier ++ replies) now start new
+
+-- how these replies come to stand behind a line that goes on or ends it, which may come by a fault
+-- of writing or by want of memory alone
+abbrev pub SaysOn : Option Status → List ReplyParts → List ℕ → List ℕ → SinkTold → SinkTold
+    → Type 0
+SaysOn None replies before now old new = StandsOn None replies before now old new
+SaysOn (Some Done) replies before now old new = ⊥
+SaysOn (Some Usage) replies before now old new = ⊥
+SaysOn (Some (BadLine n)) replies before now old new = ⊥
+SaysOn (Some ReadFault) replies before now old new = ⊥
+SaysOn (Some WriteFault) replies before now old new =
+    StandsOn (Some WriteFault) replies before now old new
+SaysOn (Some Memory) replies before now old new =
+    StandsOn (Some Memory) replies before now old new
+SaysOn (Some BadStream) replies before now old new = ⊥
 
 -- A line was taken: what it asks was answered, and the reading is that behind it.
 pub record TakesLine (reading now : ℕ) (before after : EntityData)
-    (told more : LinkTold) (old new : SinkTold)
+    (told more : LinkTold) (waited waiting : List ℕ) (old new : SinkTold)
     (line : Line) (status : Option Status) : Type 0 where
   pub asks : AsksLines reading before after told more (line ∷ [])
   pub reads : now ≡ next_reading reading line
-  pub said : WritesOn status asks.replies old new
+  pub said : SaysOn status asks.replies waited waiting old new
 
 -- The replay goes on: the lines from this place up to the next were taken and answered.
 pub record ReplaysUpTo (place next reading now : ℕ) (before after : EntityData)
-    (old new : Outside) : Type 0 where
+    (waited waiting : List ℕ) (old new : Outside) : Type 0 where
   pub heard : List Line
   pub asks : AsksLines reading before after old.link new.link heard
   pub places : place + length heard ≡ next
   pub reads : now ≡ reading_behind reading heard
   pub stream : LeadsTo place old.left heard new.left
-  pub said : Puts (lines_of_replies asks.replies) (length asks.replies) old.out new.out
+  pub said : StandsOn None asks.replies waited waiting old.out new.out
+
+-- what a stream was where lines from this place on were heard and ended so, and this is left now
+abbrev pub EndsOn : ℕ → Status → List Line → Option (List ℕ) → List ℕ → Type 0
+EndsOn place ended heard now bytes =
+    (rest : List ℕ) × BeginsWithLines place bytes heard rest
+    × StopsRightly (place + length heard) ended rest now
+
+-- Lines were taken and answered from the one at this place on, and ended so, and what waits isn't
+-- put yet.
+pub record StopsFrom (place reading : ℕ) (before after : EntityData) (waited waiting : List ℕ)
+    (old new : Outside) (ended : Status) : Type 0 where
+  pub heard : List Line
+  pub asks : AsksLines reading before after old.link new.link heard
+  pub stream : IfSome old.left (EndsOn place ended heard new.left)
+  pub said : StandsOn (Some ended) asks.replies waited waiting old.out new.out
 
 -- Lines were replayed from the one at this place on, before which this was the reading and this the
 -- entity, and ended so. Of the bytes that the source had left, `heard` are the lines that were
@@ -88,8 +129,7 @@ pub record ReplaysFrom (place reading : ℕ) (before after : EntityData)
     (old new : Outside) (ended : Status) : Type 0 where
   pub heard : List Line
   pub asks : AsksLines reading before after old.link new.link heard
-  pub stream : IfSome old.left (λ bytes. (rest : List ℕ) × BeginsWithLines place bytes heard rest
-      × StopsRightly (place + length heard) ended rest new.left)
+  pub stream : IfSome old.left (EndsOn place ended heard new.left)
   pub said : WritesReplies ended asks.replies old.out new.out
 
 -- ---- items

@@ -1,11 +1,13 @@
 //! What a request on a line is answered, and its way to the sink.
-ghost use Rattle.std.specs.Prelude.{◌≡◌, Some, OnOk};
+ghost use Rattle.std.specs.Prelude.{◌≡◌, ◌++◌, Some, OnErr, OnOk};
 ghost use Rattle.cse_server.specs.Outside.{EndsByFault, link_told, sink_told};
 ghost use Rattle.primitive_json.specs.declared.request.RequestParts.{RequestParts};
 ghost use Rattle.cse_machine.specs.Answer.{starved};
 ghost use Rattle.primitive_replay.specs.Script.{reply_line};
+ghost use Rattle.primitive_replay.specs.Together.{SaysText};
 ghost use Rattle.primitive_replay.specs.Way.{RepliesTo, WritesText};
 
+use crate::waiting::put_if_much;
 use cse_machine::{Event, Outcome, step};
 use desk_replies::{bare_reply, reply_onward};
 use entity_model::Entity;
@@ -54,15 +56,19 @@ pub(crate) fn put_request<T: Tree, L: Link>(
     }
 }
 
-/// The reply as a line, in place of what stands in the text.
-fn write_reply_line(alloc: Global, text: &mut Vec<u8>, reply: Reply) -> Result<(), OutOfMemory>
-    ensures { OnOk result (text.new.items ≡ reply_line reply) }
+/// Appends the reply as a line, or leaves the text as it was.
+fn push_reply_line(alloc: Global, text: &mut Vec<u8>, reply: Reply) -> Result<(), OutOfMemory>
+    ensures ok { OnOk result (text.new.items ≡ text.old.items ++ reply_line reply) }
+    ensures err { OnErr result (text.new.items ≡ text.old.items) }
 {
     let value = reply_into(alloc, reply)?;
-    text.clear();
     text.reserve(REPLY_ROOM)?;
+    let before = text.len();
     write(&value, text)?;
-    text.push(b'\n')?;
+    let Ok(()) = text.push(b'\n') else {
+        text.truncate(before);
+        return Err(OutOfMemory);
+    };
     Ok(())
 }
 
@@ -80,22 +86,25 @@ pub fn put_line<O: Sink>(out: &mut O, line: &[u8]) -> Option<Status>
     }
 }
 
-/// Writes the reply as a line, by one call of the sink. None where it was written. Where memory
-/// runs out, it isn't begun. The line is made in room that is kept from line to line.
-pub(crate) fn put_reply<O: Sink>(
+/// Says a reply: its line waits behind what waits, and all is put once it is much. None where the
+/// replies go on. Where memory runs out, the line isn't begun.
+pub(crate) fn say_reply<O: Sink>(
     alloc: Global,
-    room: &mut Vec<u8>,
+    waiting: &mut Vec<u8>,
     out: &mut O,
     reply: Reply,
 ) -> Option<Status>
-    ensures said { WritesText result (reply_line reply)
+    ensures says { SaysText result (reply_line reply) waiting.old.items waiting.new.items
         (sink_told (O.written out.old) (O.puts out.old))
         (sink_told (O.written out.new) (O.puts out.new)) }
     ensures writes { EndsByFault (Some Status.WriteFault) result
         (O.faults out.old) (O.faults out.new) }
 {
-    let Ok(()) = write_reply_line(alloc, room, reply) else {
+    let Ok(()) = push_reply_line(alloc, waiting, reply) else {
         return Some(Status::Memory);
     };
-    put_line(out, room)
+    match put_if_much(waiting, out) {
+        Ok(()) => None,
+        Err(_) => Some(Status::WriteFault),
+    }
 }

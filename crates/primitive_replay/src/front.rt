@@ -1,5 +1,5 @@
 //! What stands at the front of a stream of lines.
-ghost use Rattle.std.specs.Prelude.{◌≡◌, ◌≢◌, ◌≤◌, Err, length, take};
+ghost use Rattle.std.specs.Prelude.{◌≡◌, ◌≢◌, ◌<◌, ◌≤◌, Err, IfSome, None, length, take};
 ghost use Rattle.std.specs.Io.KnownBytes.{Keeps, prepend_known};
 ghost use Rattle.m2m_io.specs.Counts.{CountsFault};
 ghost use Rattle.primitive_replay.specs.Front.{HasNoEnd, IsFront, IsFrontAtEnd, end_of};
@@ -28,6 +28,17 @@ fn end_of(bytes: &[u8]) -> usize
     ensures bound { result ≤ length bytes.now }
 {
     bytes.iter().take_while(|byte| **byte != b'\n').count()
+}
+
+/// Where the first line that ends in the bytes held has its LF.
+pub(crate) fn end_held(held: &LineBuffer) -> Option<usize>
+    ensures found { IfSome result (λ end. (end ≡ end_of held.now) × (end < length held.now)) }
+    ensures none { result ≡ None → HasNoEnd held.now }
+    ensures few { length held.now ≤ held_limit }
+{
+    let bytes = held.bytes();
+    let end = end_of(bytes);
+    if end < bytes.len() { Some(end) } else { None }
 }
 
 /// The same, where none of the first `seen` bytes is one.

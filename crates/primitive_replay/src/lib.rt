@@ -26,6 +26,7 @@ mod line_buffer;
 mod next;
 mod replaying;
 mod request_text;
+mod waiting;
 
 pub use answer::put_line;
 pub use fault::LineFault;

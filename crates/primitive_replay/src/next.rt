@@ -28,7 +28,7 @@ fn without_return(text: &[u8]) -> &[u8]
 }
 
 /// Takes the line that ends at this place of the bytes held, behind which anything may be left.
-fn take_ended<F: LineForm>(
+pub(crate) fn take_ended<F: LineForm>(
     alloc: Global,
     form: &F,
     scratch: &mut Scratch,

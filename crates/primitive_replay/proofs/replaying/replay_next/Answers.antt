@@ -1,22 +1,15 @@
-use Rattle.std.proofs.Common.{Err, ap, refl}
-use Rattle.primitive_replay.proofs.TurnLemmas.{done_ends, fault_ends, line_next, one_leads}
+use Rattle.primitive_replay.proofs.TurnLemmas.{put_fails, put_next}
 use Rattle.primitive_replay.proofs.replaying.replay_next.Goals as goal
 
-pub returns-in-Ok-Some-clause-next : goal.returns-in-Ok-Some-clause-next
-returns-in-Ok-Some-clause-next g c =
-    let next = rw c.in-Ok-Some.field-0-is at c.in-Ok-Some.ensures.next in
-    line_next c.args.place c.args.reading.now c.take_line.new.reading c.args.entity.now c.take_line.new.entity _ c.next_line.new.held (g.S.Source.left c.next_line.new.src)
-    _ _ _ _
-    _ c.take_line.result c.in-Ok-Some.ensures.few (one_leads c.args.place _ _ _ next) c.take_line.ensures.takes
-
-pub returns-in-Ok-None-clause-next : goal.returns-in-Ok-None-clause-next
-returns-in-Ok-None-clause-next g c =
-    let next = rw c.in-Ok-None.field-0-is at c.in-Ok-None.ensures.next in
-    let end = rw c.in-Ok-None.field-0-is at c.in-Ok-None.ensures.end in
-    done_ends c.args.place c.args.reading.now c.args.entity.now _ (g.S.Source.left c.next_line.new.src) _ _ next (end refl)
+pub returns-in-Some-clause-next : goal.returns-in-Some-clause-next
+returns-in-Some-clause-next g c = c.replay_held.ensures.next (g.S.Source.left c.args.input.now)
 
 pub returns-in-Err-clause-next : goal.returns-in-Err-clause-next
-returns-in-Err-clause-next g c = rw c.fault_status.ensures
-    (fault_ends c.in-Err.fault c.args.place c.args.reading.now c.args.entity.now _ c.next_line.new.held (g.S.Source.left c.next_line.new.src)
-    _ _
-    c.in-Err.ensures.few c.in-Err.ensures.next (λ e. c.in-Err.ensures.waiting (ap Err e)))
+returns-in-Err-clause-next g c =
+    put_fails c.args.place c.args.reading.now c.args.entity.now c.args.held.now (g.S.Source.left c.args.input.now) _ _ _ _ _
+    c.end_held.ensures.few c.in-Err.ensures.some c.in-Err.ensures.err
+
+pub returns-in-Ok-clause-next : goal.returns-in-Ok-clause-next
+returns-in-Ok-clause-next g c =
+    put_next c.args.place c.args.reading.now c.replay_read.new.reading c.args.entity.now c.replay_read.new.entity _ _ _ _ _ _ _ _ _ c.replay_read.result
+    c.in-Ok.ensures.ok c.replay_read.ensures.next
