@@ -1,6 +1,6 @@
 //! Bytes of a file are kept beside it.
 use crate::OpenFault;
-use crate::opening::{fill, is_absent, make_beside, place, sync_name};
+use crate::opening::{beside, fill, is_absent, make_beside, place, sync_name};
 use std::fs::File;
 use std::os::unix::fs::{MetadataExt, fchown};
 use std::{fs, io};
@@ -39,10 +39,11 @@ fn guard_like(rt: &HostRuntime, file: &File, path: &str) -> io::Result<()> {
 /// number. A crash leaves all the bytes under this name, or none.
 pub(crate) fn set_aside(rt: &HostRuntime, path: &str, bytes: &[u8]) -> Result<(), OpenFault> {
     let cut = format!(in rt.alloc(); "{path}.cut")?;
-    let file = make_beside(rt, cut.as_str())?;
+    let beside = beside(rt, cut.as_str())?;
+    let file = make_beside(rt, beside.as_str())?;
     guard_like(rt, &file, path)?;
     fill(&file, bytes)?;
     give_number(rt, cut.as_str())?;
-    place(rt, cut.as_str())?;
+    place(rt, beside.as_str(), cut.as_str())?;
     sync_name(rt, cut.as_str())
 }

@@ -3,7 +3,9 @@ ghost use Rattle.std.specs.Prelude.{◌≡◌, [], ⊤, IsErr};
 ghost use Rattle.m2m_io.specs.Counts.{CountsFaults};
 
 use crate::OpenFault;
-use crate::opening::{is_absent, make, make_like, open_filled, open_there, place, sync_name};
+use crate::opening::{
+    beside, is_absent, make, make_like, open_filled, open_there, place, sync_name,
+};
 use crate::operator::Operator;
 use kept_file::{Failed, FileFault, KeptFile, KeptName};
 use std::alloc::{AllocError, Global};
@@ -144,20 +146,24 @@ impl KeptFile for DiskFile {
 }
 
 /// The name of a file of the system, in whose place another one can be put. Each error of the
-/// system is a fault, and is told on standard error.
+/// system is a fault, and is told on standard error. What its calls need of memory it has already.
 #[derive(Drop)]
 pub struct DiskName {
     rt: HostRuntime,
-    path: String,
+    beside: String,
     faults: u64,
     operator: Operator,
 }
 
-/// Makes a file without a byte beside the one that has a name, with the owner and the rights of
-/// that one.
-fn blank_beside(rt: &HostRuntime, path: &str) -> Result<DiskFile, OpenFault> {
-    let operator = Operator::new(rt, path)?;
-    let file = make_like(rt, path)?;
+/// Makes a file without a byte beside the one of which this operator is told, with the owner and
+/// the rights of that one.
+fn blank_beside(
+    rt: &HostRuntime,
+    beside: &str,
+    operator: &Operator,
+) -> Result<DiskFile, OpenFault> {
+    let operator = operator.again()?;
+    let file = make_like(rt, beside, operator.name())?;
     Ok(DiskFile {
         file,
         faults: 0,
@@ -170,7 +176,7 @@ impl DiskName {
     pub fn new(rt: &HostRuntime, path: &str) -> Result<DiskName, AllocError> {
         Ok(DiskName {
             rt: *rt,
-            path: String::from_str(rt.alloc(), path)?,
+            beside: beside(rt, path)?,
             faults: 0,
             operator: Operator::new(rt, path)?,
         })
@@ -209,17 +215,17 @@ impl KeptName<DiskFile> for DiskName {
     ghost only_now = { λ none. absurd none };
 
     fn make(&mut self) -> Result<DiskFile, Failed> {
-        let done = blank_beside(&self.rt, self.path.as_str());
+        let done = blank_beside(&self.rt, self.beside.as_str(), &self.operator);
         self.counted(done)
     }
 
     fn give(&mut self, _: &DiskFile) -> Result<(), Failed> {
-        let done = place(&self.rt, self.path.as_str());
+        let done = place(&self.rt, self.beside.as_str(), self.operator.name());
         self.counted(done)
     }
 
     fn sync(&mut self) -> Result<(), Failed> {
-        let done = sync_name(&self.rt, self.path.as_str());
+        let done = sync_name(&self.rt, self.operator.name());
         self.counted(done)
     }
 }

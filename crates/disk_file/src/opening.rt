@@ -4,6 +4,7 @@ use std::alloc::AllocError;
 use std::fs::{File, OpenOptions, TryLockError};
 use std::os::fd::AsRawFd;
 use std::os::unix::fs::{FileExt, MetadataExt, fchown};
+use std::path::Path;
 use std::{fs, io};
 
 /// The last descriptor of the standard streams.
@@ -44,11 +45,17 @@ fn is_named(rt: &HostRuntime, file: &File, path: &str) -> io::Result<bool> {
     )
 }
 
-/// Syncs the folder in which a file is.
+/// The folder in which a file is that is no link.
+fn folder_of(path: &str) -> &str {
+    match Path::new(path).parent() {
+        Some(folder) if !folder.as_str().is_empty() => folder.as_str(),
+        _ => ".",
+    }
+}
+
+/// Syncs the folder in which a file is. That takes no memory.
 fn sync_folder(rt: &HostRuntime, path: &str) -> io::Result<()> {
-    let mut folder = fs::canonicalize(rt, path)?;
-    folder.pop();
-    File::open(rt, folder.as_str())?.sync_all()
+    File::open(rt, folder_of(path))?.sync_all()
 }
 
 /// Has what is read of a file be what stands on the disk.
@@ -73,16 +80,15 @@ pub(crate) fn open_there(rt: &HostRuntime, path: &str) -> Result<File, OpenFault
 }
 
 /// The name that a file has until it is whole.
-fn beside(rt: &HostRuntime, path: &str) -> Result<String, AllocError> {
+pub(crate) fn beside(rt: &HostRuntime, path: &str) -> Result<String, AllocError> {
     format!(in rt.alloc(); "{path}.new")
 }
 
-/// Makes a file without a byte beside the one that has a name, if any has it, with a lock.
-pub(crate) fn make_beside(rt: &HostRuntime, path: &str) -> Result<File, OpenFault> {
-    let beside = beside(rt, path)?;
-    let file = open_plain(rt, beside.as_str(), true)?;
+/// Makes a file without a byte under the name that it has until it is whole, with a lock.
+pub(crate) fn make_beside(rt: &HostRuntime, beside: &str) -> Result<File, OpenFault> {
+    let file = open_plain(rt, beside, true)?;
     lock(&file)?;
-    if !is_named(rt, &file, beside.as_str())? {
+    if !is_named(rt, &file, beside)? {
         return Err(OpenFault::NoPlainFile);
     }
     file.set_len(0)?;
@@ -97,21 +103,21 @@ fn take_rights(rt: &HostRuntime, file: &File, path: &str) -> io::Result<()> {
 }
 
 /// Makes a file without a byte beside the one that has a name, with a lock, and with the owner and
-/// the rights of that one.
-pub(crate) fn make_like(rt: &HostRuntime, path: &str) -> Result<File, OpenFault> {
-    let file = make_beside(rt, path)?;
+/// the rights of that one. That takes no memory.
+pub(crate) fn make_like(rt: &HostRuntime, beside: &str, path: &str) -> Result<File, OpenFault> {
+    let file = make_beside(rt, beside)?;
     take_rights(rt, &file, path)?;
     Ok(file)
 }
 
-/// Gives the name to the file that was made beside the one that has it, if any has it.
-pub(crate) fn place(rt: &HostRuntime, path: &str) -> Result<(), OpenFault> {
-    let beside = beside(rt, path)?;
-    fs::rename(rt, beside.as_str(), path)?;
+/// Gives the name to the file that was made beside the one that has it, if any has it. That takes no
+/// memory.
+pub(crate) fn place(rt: &HostRuntime, beside: &str, path: &str) -> Result<(), OpenFault> {
+    fs::rename(rt, beside, path)?;
     Ok(())
 }
 
-/// Has a crash leave from then on the file that has the name.
+/// Has a crash leave from then on the file that has the name. That takes no memory.
 pub(crate) fn sync_name(rt: &HostRuntime, path: &str) -> Result<(), OpenFault> {
     sync_folder(rt, path)?;
     Ok(())
@@ -133,9 +139,15 @@ pub(crate) fn fill(file: &File, bytes: &[u8]) -> io::Result<()> {
 }
 
 /// Gives a name to the file that was made beside it, with these bytes in it.
-fn place_with(rt: &HostRuntime, file: &File, path: &str, bytes: &[u8]) -> Result<(), OpenFault> {
+fn place_with(
+    rt: &HostRuntime,
+    file: &File,
+    beside: &str,
+    path: &str,
+    bytes: &[u8],
+) -> Result<(), OpenFault> {
     fill(file, bytes)?;
-    place(rt, path)?;
+    place(rt, beside, path)?;
     settle(rt, file, path)?;
     Ok(())
 }
@@ -143,11 +155,12 @@ fn place_with(rt: &HostRuntime, file: &File, path: &str, bytes: &[u8]) -> Result
 /// Makes a file with these bytes, where nothing has the name. Who makes one has the lock on the
 /// file beside it; so another program that made one meanwhile is seen.
 pub(crate) fn make(rt: &HostRuntime, path: &str, bytes: &[u8]) -> Result<File, OpenFault> {
-    let file = make_beside(rt, path)?;
+    let beside = beside(rt, path)?;
+    let file = make_beside(rt, beside.as_str())?;
     if !is_absent(rt, path)? {
         return Err(OpenFault::Busy);
     }
-    place_with(rt, &file, path, bytes)?;
+    place_with(rt, &file, beside.as_str(), path, bytes)?;
     Ok(file)
 }
 
@@ -158,8 +171,9 @@ pub(crate) fn open_filled(rt: &HostRuntime, path: &str, bytes: &[u8]) -> Result<
     if file.metadata()?.len() > 0 {
         return Ok(file);
     }
-    let filled = make_like(rt, path)?;
-    place_with(rt, &filled, path, bytes)?;
+    let beside = beside(rt, path)?;
+    let filled = make_like(rt, beside.as_str(), path)?;
+    place_with(rt, &filled, beside.as_str(), path, bytes)?;
     Ok(filled)
 }
 

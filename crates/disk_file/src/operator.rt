@@ -6,6 +6,7 @@ use libc::types::pollfd;
 use std::alloc::AllocError;
 use std::io;
 use std::io::Eprint;
+use std::sync::Arc;
 
 /// The descriptor of standard error.
 const STANDARD_ERROR: i32 = 2;
@@ -14,7 +15,7 @@ const STANDARD_ERROR: i32 = 2;
 #[derive(Drop)]
 pub(crate) struct Operator {
     rt: HostRuntime,
-    name: String,
+    name: Arc<String>,
     hears: bool,
 }
 
@@ -31,11 +32,26 @@ fn is_open() -> bool {
 impl Operator {
     /// Who is told of the file of this name, unless standard error isn't open.
     pub(crate) fn new(rt: &HostRuntime, name: &str) -> Result<Operator, AllocError> {
+        let name = String::from_str(rt.alloc(), name)?;
         Ok(Operator {
             rt: *rt,
-            name: format!(in rt.alloc(); "{name}")?,
+            name: Arc::new(rt.alloc(), name)?,
             hears: is_open(),
         })
+    }
+
+    /// Who is told of another file that is to have this name. That takes no memory.
+    pub(crate) fn again(&self) -> Result<Operator, AllocError> {
+        Ok(Operator {
+            rt: self.rt,
+            name: Arc::try_clone(&self.name)?,
+            hears: self.hears,
+        })
+    }
+
+    /// The name of the file.
+    pub(crate) fn name(&self) -> &str {
+        self.name.as_str()
     }
 
     /// Writes a line, if there was memory for it.
@@ -47,13 +63,13 @@ impl Operator {
 
     /// Tells why the file failed.
     pub(crate) fn tell(&self, error: io::Error) {
-        let name = self.name.as_str();
+        let name = self.name();
         self.write(format!(in self.rt.alloc(); "{name}: {error}\n"));
     }
 
     /// Keeps bytes of the file beside it, and tells what they are, or why they can't be kept.
     pub(crate) fn keep_for(&self, bytes: &[u8], what: &str) -> Result<(), OpenFault> {
-        let name = self.name.as_str();
+        let name = self.name();
         let alloc = self.rt.alloc();
         match set_aside(&self.rt, name, bytes) {
             Ok(()) => {
