@@ -128,8 +128,8 @@ impl LaterEntry {
         self.number == number
     }
 
-    // Whether it wasn't run yet.
-    fn waits(&self) -> bool
+    /// Whether it wasn't run yet.
+    pub fn waits(&self) -> bool
         ensures { result ≡ spec.does_wait self.now }
     {
         !self.has_run

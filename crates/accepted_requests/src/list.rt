@@ -96,7 +96,7 @@ impl LaterRequests {
     }
 
     /// That one goes.
-    pub(crate) fn remove(&mut self, number: u64)
+    pub fn remove(&mut self, number: u64)
         ensures { self.new ≡ spec.without number self.old }
     {
         take_out(&mut self.entries, number);

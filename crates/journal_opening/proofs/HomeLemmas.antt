@@ -117,7 +117,7 @@ deed_home moment (Ask request) e = request_home (swept moment e) request
 deed_home moment Take e = refl
 deed_home moment Tick e = refl
 
-made_home : (deeds : List Dated) (base : EntityData) → (made_of deeds base).home ≡ base.home
+pub made_home : (deeds : List Dated) (base : EntityData) → (made_of deeds base).home ≡ base.home
 made_home [] base = refl
 made_home (dated ∷ deeds) base = made_home deeds (made_by dated base) ∙ deed_home dated.moment dated.deed base
 

@@ -21,9 +21,9 @@ use Rattle.entity_snapshot.specs.Snapshots.{SpellsEntity}
 use Rattle.entity_snapshot.specs.declared.fault.SnapshotFault.{SnapshotFault}
 use Rattle.entity_snapshot.specs.declared.fault.SnapshotFault.TheVariants as snapshot
 use Rattle.journal_opening.specs.Opening.{BeginsAs, HaltsBeginning, IsOfMachine, IsRefused, OpensAs, StopsAt, opening_fault, snapshot_fault}
-use Rattle.journal_opening.specs.Playing.{HaltsAt, HaltsPlaying, Plays, PlaysFirst, ReadsUpTo, fault_at}
+use Rattle.journal_opening.specs.Playing.{HaltsAt, HaltsPlaying, Plays, PlaysFirst, ReadsUpTo, begins_later, fault_at}
 use Rattle.journal_opening.specs.declared.fault.OpeningFault.{OpeningFault}
-use Rattle.journal_opening.specs.declared.fault.OpeningFault.TheVariants.{NoHeader, OtherFormat, OtherHome, BadSnapshot, Unsound, BadLine, OldDeed, Failed, OutOfMemory}
+use Rattle.journal_opening.specs.declared.fault.OpeningFault.TheVariants.{NoHeader, OtherFormat, OtherHome, BadSnapshot, Unsound, BadLine, OldDeed, LaterWord, Failed, OutOfMemory}
 
 -- ---- deeds, one after another
 
@@ -101,14 +101,19 @@ halts_at bytes from at before after plays counts none = record { deeds = plays.d
 pub halts_by : (bytes : List ℕ) (from at : ℕ) (fault : OpeningFault) → HaltsAt bytes from at → fault ≡ fault_at bytes at → HaltsPlaying bytes from fault
 halts_by bytes from at fault halts is =
     let number = line_number bytes at in
-    let at_unmarked : Bool → OpeningFault = λ b. if b then OldDeed number else BadLine number in
+    let by : Bool → Bool → OpeningFault = λ b c. if b then OldDeed number else if c then LaterWord number else BadLine number in
     elim (cases_Bool (begins_unmarked (drop at bytes))) [
       | inl old ↦
-          let same : fault_at bytes at ≡ OldDeed number = ap at_unmarked old in
+          let same : fault_at bytes at ≡ OldDeed number = ap (λ (b : Bool). by b (begins_later (drop at bytes))) old in
           subst (HaltsPlaying bytes from) (sym (is ∙ same)) (at, halts, sym same)
-      | inr none ↦
-          let same : fault_at bytes at ≡ BadLine number = ap at_unmarked none in
-          subst (HaltsPlaying bytes from) (sym (is ∙ same)) (at, halts, sym same)
+      | inr none ↦ elim (cases_Bool (begins_later (drop at bytes))) [
+        | inl later ↦
+            let same : fault_at bytes at ≡ LaterWord number = ap (λ (b : Bool). by b (begins_later (drop at bytes))) none ∙ ap (by false) later in
+            subst (HaltsPlaying bytes from) (sym (is ∙ same)) (at, halts, sym same)
+        | inr other ↦
+            let same : fault_at bytes at ≡ BadLine number = ap (λ (b : Bool). by b (begins_later (drop at bytes))) none ∙ ap (by false) other in
+            subst (HaltsPlaying bytes from) (sym (is ∙ same)) (at, halts, sym same)
+      ]
     ]
 
 -- ---- behind the header
@@ -202,6 +207,7 @@ refused_first home bytes (BadSnapshot number) said = said
 refused_first home bytes Unsound said = said
 refused_first home bytes (BadLine number) said = absurd said
 refused_first home bytes (OldDeed number) said = absurd said
+refused_first home bytes (LaterWord number) said = absurd said
 refused_first home bytes Failed said = tt
 refused_first home bytes OutOfMemory said = tt
 
@@ -214,6 +220,7 @@ refused_then home bytes from base (BadSnapshot number) begins said = absurd said
 refused_then home bytes from base Unsound begins said = absurd said
 refused_then home bytes from base (BadLine number) begins (at, halts, is) = (at, stops_at home bytes from at base begins halts, is)
 refused_then home bytes from base (OldDeed number) begins (at, halts, is) = (at, stops_at home bytes from at base begins halts, is)
+refused_then home bytes from base (LaterWord number) begins (at, halts, is) = (at, stops_at home bytes from at base begins halts, is)
 refused_then home bytes from base Failed begins said = tt
 refused_then home bytes from base OutOfMemory begins said = tt
 
@@ -225,6 +232,7 @@ refused_by_machine home bytes (BadSnapshot number) said = absurd said
 refused_by_machine home bytes Unsound said = absurd said
 refused_by_machine home bytes (BadLine number) said = absurd said
 refused_by_machine home bytes (OldDeed number) said = absurd said
+refused_by_machine home bytes (LaterWord number) said = absurd said
 refused_by_machine home bytes Failed said = tt
 refused_by_machine home bytes OutOfMemory said = tt
 

@@ -23,22 +23,22 @@ use Rattle.entity_snapshot.specs.declared.fault.SnapshotFault.{SnapshotFault}
 use Rattle.entity_snapshot.specs.declared.fault.SnapshotFault.TheVariants as snapshot
 use Rattle.journal_opening.specs.Opening.{IsNoSnapshot, IsOfMachine, IsRefused, OpensAs, StopsAt}
 use Rattle.journal_opening.specs.declared.fault.OpeningFault.{OpeningFault}
-use Rattle.journal_opening.specs.declared.fault.OpeningFault.TheVariants.{NoHeader, OtherFormat, OtherHome, BadSnapshot, Unsound, BadLine, OldDeed, Failed, OutOfMemory}
+use Rattle.journal_opening.specs.declared.fault.OpeningFault.TheVariants.{NoHeader, OtherFormat, OtherHome, BadSnapshot, Unsound, BadLine, OldDeed, LaterWord, Failed, OutOfMemory}
 
 -- ---- a deed stands behind an open gate
 
-none_some : {A B : Type 0} (x : A) → None ≡ Some x → B
+pub none_some : {A B : Type 0} (x : A) → None ≡ Some x → B
 none_some x e = absurd cc
 
-open_front : (dated : Dated) (front back : List ℕ) → SpellsDeed dated front → is_shut (front ++ back) ≡ false
+pub open_front : (dated : Dated) (front back : List ℕ) → SpellsDeed dated front → is_shut (front ++ back) ≡ false
 open_front dated front back spells = ap (λ (l : List ℕ). is_shut (l ++ back)) spells.split
 
-not_shut : {B : Type 0} (dated : Dated) (front back bytes : List ℕ) → SpellsDeed dated front → bytes ≡ front ++ back → is_shut bytes ≡ true → B
+pub not_shut : {B : Type 0} (dated : Dated) (front back bytes : List ℕ) → SpellsDeed dated front → bytes ≡ front ++ back → is_shut bytes ≡ true → B
 not_shut dated front back bytes spells is shut = absurd (true≢false (sym shut ∙ ap is_shut is ∙ open_front dated front back spells))
 
 -- ---- one deed
 
-some_same : {A : Type 0} (x y : A) → Some x ≡ Some y → x ≡ y
+pub some_same : {A : Type 0} (x y : A) → Some x ≡ Some y → x ≡ y
 some_same x y e = cc
 
 -- fronts of one length
@@ -51,12 +51,12 @@ module _ (front front1 rest rest1 : List ℕ) (whole : front ++ rest ≡ front1 
   rests_same =
       sym (drop_at front1 rest1 (length front) size) ∙ ap (λ (l : List ℕ). drop (length front) l) (sym whole) ∙ drop_at front rest (length front) refl
 
-record SameFront (dated other : Dated) (front front1 rest rest1 : List ℕ) : Type 0 where
-  deed : other ≡ dated
-  fronts : front1 ≡ front
-  rests : rest1 ≡ rest
+pub record SameFront (dated other : Dated) (front front1 rest rest1 : List ℕ) : Type 0 where
+  pub deed : other ≡ dated
+  pub fronts : front1 ≡ front
+  pub rests : rest1 ≡ rest
 
-same_front : (dated other : Dated) (front front1 rest rest1 : List ℕ) → SpellsDeed dated front → SpellsDeed other front1
+pub same_front : (dated other : Dated) (front front1 rest rest1 : List ℕ) → SpellsDeed dated front → SpellsDeed other front1
     → front ++ rest ≡ front1 ++ rest1 → SameFront dated other front front1 rest rest1
 same_front dated other front front1 rest rest1 spells spells1 whole =
     let one = deed_read dated front rest spells in
@@ -71,7 +71,7 @@ same_front dated other front front1 rest rest1 spells spells1 whole =
 -- ---- all deeds
 
 -- the bytes of a list of lines that begins with those of a deed
-joined : (lines front back behind : List ℕ) → lines ≡ front ++ back → lines ++ behind ≡ front ++ (back ++ behind)
+pub joined : (lines front back behind : List ℕ) → lines ≡ front ++ back → lines ++ behind ≡ front ++ (back ++ behind)
 joined lines front back behind split = ap (λ (l : List ℕ). l ++ behind) split ∙ append_assoc front back behind
 
 same_deeds : (deeds others : List Dated) (lines more behind rest : List ℕ) → SpellsDeeds deeds lines → SpellsDeeds others more
@@ -108,10 +108,10 @@ never_stuck (d ∷ deeds) (e ∷ others) lines more behind rest (front, back, sp
 ok_same : {A : Type 0} {E : Type 0} (x y : A) → (r : Result A E) → r ≡ Ok x → r ≡ Ok y → y ≡ x
 ok_same x y r one two = cc
 
-record SameOpening (base other : EntityData) (front front1 rest rest1 : List ℕ) : Type 0 where
-  bases : other ≡ base
-  fronts : front1 ≡ front
-  rests : rest1 ≡ rest
+pub record SameOpening (base other : EntityData) (front front1 rest rest1 : List ℕ) : Type 0 where
+  pub bases : other ≡ base
+  pub fronts : front1 ≡ front
+  pub rests : rest1 ≡ rest
 
 same_first : (home : HomeData) (base other : EntityData) (front front1 rest rest1 : List ℕ) → SpellsFirst home base front → SpellsFirst home other front1
     → front ++ rest ≡ front1 ++ rest1 → SameOpening base other front front1 rest rest1
@@ -149,7 +149,7 @@ never_both home base other front front1 rest rest1 opens kept whole =
     let both : Ok opens.opened ≡ Err header.NoHeader = sym one ∙ ap (first_header home) whole ∙ none in
     cc
 
-same_opening : (home : HomeData) (base other : EntityData) (front front1 rest rest1 : List ℕ) → SpellsOpening home base front → SpellsOpening home other front1
+pub same_opening : (home : HomeData) (base other : EntityData) (front front1 rest rest1 : List ℕ) → SpellsOpening home base front → SpellsOpening home other front1
     → front ++ rest ≡ front1 ++ rest1 → SameOpening base other front front1 rest rest1
 same_opening home base other front front1 rest rest1 (inl opens) (inl opens1) whole = same_first home base other front front1 rest rest1 opens opens1 whole
 same_opening home base other front front1 rest rest1 (inr kept) (inr kept1) whole = same_snapshot home base other front front1 rest rest1 kept kept1 whole
@@ -165,7 +165,7 @@ err_alike : {A E : Type 0} (r : Result A E) (one other : E) → r ≡ Err one �
 err_alike r one other first second = cc
 
 -- a header that is refused would be none
-none_refused_first : (home : HomeData) (base : EntityData) (front rest : List ℕ) (fault : HeaderFault) → SpellsOpening home base front → first_header home (front ++ rest) ≡ Err fault
+pub none_refused_first : (home : HomeData) (base : EntityData) (front rest : List ℕ) (fault : HeaderFault) → SpellsOpening home base front → first_header home (front ++ rest) ≡ Err fault
     → fault ≡ header.NoHeader
 none_refused_first home base front rest fault (inl opens) err =
     absurd (ok_never_err (first_header home (front ++ rest)) opens.opened fault (header_read home opens.opened front rest opens.header).0 err)
@@ -173,7 +173,7 @@ none_refused_first home base front rest fault (inr kept) err =
     err_alike (first_header home (front ++ rest)) fault header.NoHeader err (no_header home (entity_head base) (front ++ rest) (head_of_home home base front rest kept))
 
 -- a snapshot that is refused would be one for which there is no memory
-none_refused_behind : (home : HomeData) (base : EntityData) (front rest : List ℕ) (fault : SnapshotFault) → SpellsOpening home base front → IsNoSnapshot home (front ++ rest) fault
+pub none_refused_behind : (home : HomeData) (base : EntityData) (front rest : List ℕ) (fault : SnapshotFault) → SpellsOpening home base front → IsNoSnapshot home (front ++ rest) fault
     → fault ≡ snapshot.OutOfMemory
 none_refused_behind home base front rest fault (inl opens) none =
     absurd (ok_never_err (first_header home (front ++ rest)) opens.opened header.NoHeader (header_read home opens.opened front rest opens.header).0 none.0)
@@ -242,6 +242,7 @@ module _ (home : HomeData) (base : EntityData) (deeds : List Dated) (text bytes 
   refused Unsound none = (let is : snapshot.Unsound ≡ snapshot.OutOfMemory = snapshot_there snapshot.Unsound none in cc)
   refused (BadLine number) (place, stops, is) = none_stuck stops.base stops.deeds place stops.journal stops.counts stops.none
   refused (OldDeed number) (place, stops, is) = none_stuck stops.base stops.deeds place stops.journal stops.counts stops.none
+  refused (LaterWord number) (place, stops, is) = none_stuck stops.base stops.deeds place stops.journal stops.counts stops.none
   refused Failed said = tt
   refused OutOfMemory said = tt
 

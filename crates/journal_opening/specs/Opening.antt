@@ -20,7 +20,7 @@ use Rattle.journal_opening.specs.declared.fault.OpeningFault.{OpeningFault}
 use Rattle.journal_opening.specs.declared.fault.OpeningFault.TheVariants.{NoHeader, OtherFormat}
 use Rattle.journal_opening.specs.declared.fault.OpeningFault.TheVariants.{OtherHome, BadLine}
 use Rattle.journal_opening.specs.declared.fault.OpeningFault.TheVariants.{BadSnapshot, Unsound}
-use Rattle.journal_opening.specs.declared.fault.OpeningFault.TheVariants.{OldDeed}
+use Rattle.journal_opening.specs.declared.fault.OpeningFault.TheVariants.{OldDeed, LaterWord}
 use Rattle.journal_opening.specs.declared.fault.OpeningFault.TheVariants.{Failed, OutOfMemory}
 
 -- The bytes are those of a file that keeps a text of so many bytes, which makes this entity.
@@ -58,6 +58,8 @@ IsRefused home bytes (BadLine number) =
     (place : ℕ) × StopsAt home bytes place × (BadLine number ≡ fault_at bytes place)
 IsRefused home bytes (OldDeed number) =
     (place : ℕ) × StopsAt home bytes place × (OldDeed number ≡ fault_at bytes place)
+IsRefused home bytes (LaterWord number) =
+    (place : ℕ) × StopsAt home bytes place × (LaterWord number ≡ fault_at bytes place)
 IsRefused home bytes Failed = ⊤
 IsRefused home bytes OutOfMemory = ⊤
 
@@ -70,6 +72,7 @@ IsOfMachine (BadSnapshot number) = ⊥
 IsOfMachine Unsound = ⊥
 IsOfMachine (BadLine number) = ⊥
 IsOfMachine (OldDeed number) = ⊥
+IsOfMachine (LaterWord number) = ⊥
 IsOfMachine Failed = ⊤
 IsOfMachine OutOfMemory = ⊤
 
@@ -109,6 +112,7 @@ HaltsBeginning home bytes (BadSnapshot number) = IsNoSnapshot home bytes (snapsh
 HaltsBeginning home bytes Unsound = IsNoSnapshot home bytes snapshot.Unsound
 HaltsBeginning home bytes (BadLine number) = ⊥
 HaltsBeginning home bytes (OldDeed number) = ⊥
+HaltsBeginning home bytes (LaterWord number) = ⊥
 HaltsBeginning home bytes Failed = ⊥
 HaltsBeginning home bytes OutOfMemory = ⊤
 

@@ -1,6 +1,7 @@
 -- How far the lines of a journal are played.
 use Rattle.std.specs.Prelude.{◌≡◌, ℕ, ◌+◌, ◌≤◌, false, List, ◌++◌, length, drop, Some, None, ⊤}
-use Rattle.std.specs.Prelude.{if◌then◌else◌}
+use Rattle.std.specs.Prelude.{if◌then◌else◌, nat_eq, codes, Bool}
+use Rattle.std.specs.List.{starts_with}
 use Rattle.entity_model.specs.Entity.{EntityData}
 use Rattle.journal_file.specs.Gates.{is_shut}
 use Rattle.journal_lines.specs.Lines.{begins_unmarked, deed_len, first_deed}
@@ -12,7 +13,7 @@ use Rattle.journal_opening.specs.declared.fault.OpeningFault.{OpeningFault}
 use Rattle.journal_opening.specs.declared.fault.OpeningFault.TheVariants.{NoHeader, OtherFormat}
 use Rattle.journal_opening.specs.declared.fault.OpeningFault.TheVariants.{OtherHome, BadLine}
 use Rattle.journal_opening.specs.declared.fault.OpeningFault.TheVariants.{BadSnapshot, Unsound}
-use Rattle.journal_opening.specs.declared.fault.OpeningFault.TheVariants.{OldDeed}
+use Rattle.journal_opening.specs.declared.fault.OpeningFault.TheVariants.{OldDeed, LaterWord}
 use Rattle.journal_opening.specs.declared.fault.OpeningFault.TheVariants.{Failed, OutOfMemory}
 
 -- The bytes between two places are the lines of these deeds.
@@ -45,10 +46,17 @@ pub record HaltsAt (bytes : List ℕ) (from at : ℕ) : Type 0 where
   pub counts : is_shut (drop at bytes) ≡ false
   pub none : first_deed (drop at bytes) ≡ None
 
--- why no deed begins at a place: a program of the format 1 has written it, or it is none
+-- A word on requests that are answered later begins the bytes: its mark has another number than
+-- that of a deed.
+abbrev pub begins_later : List ℕ → Bool
+begins_later bytes = starts_with nat_eq bytes (codes "@3:")
+
+-- why no deed begins at a place: a program of the format 1 has written it, a CSE that answers later
+-- has, or it is none
 abbrev pub fault_at : List ℕ → ℕ → OpeningFault
 fault_at bytes place =
-    if begins_unmarked (drop place bytes) then OldDeed (line_number bytes place)
+    if begins_unmarked (drop place bytes) then OldDeed (line_number bytes place) else
+    if begins_later (drop place bytes) then LaterWord (line_number bytes place)
     else BadLine (line_number bytes place)
 
 -- why the lines from a place on aren't played to their end
@@ -62,5 +70,7 @@ HaltsPlaying bytes from (BadLine number) =
     (at : ℕ) × HaltsAt bytes from at × (BadLine number ≡ fault_at bytes at)
 HaltsPlaying bytes from (OldDeed number) =
     (at : ℕ) × HaltsAt bytes from at × (OldDeed number ≡ fault_at bytes at)
+HaltsPlaying bytes from (LaterWord number) =
+    (at : ℕ) × HaltsAt bytes from at × (LaterWord number ≡ fault_at bytes at)
 HaltsPlaying bytes from Failed = ⊥
 HaltsPlaying bytes from OutOfMemory = ⊤

@@ -50,7 +50,7 @@ fn what_is_cut(alloc: Global, bytes: &[u8], len: usize) -> Result<String, OutOfM
 }
 
 /// Has what stands in a file behind a text of so many bytes be set aside. A gate alone isn't.
-pub(crate) fn set_aside<F: KeptFile>(
+pub fn set_aside<F: KeptFile>(
     alloc: Global,
     file: &mut F,
     bytes: &[u8],

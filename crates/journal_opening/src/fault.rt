@@ -23,6 +23,9 @@ pub enum OpeningFault {
     /// At the line of this number, from 1, a deed begins that an older program has written, in the
     /// format 1.
     OldDeed(usize),
+    /// At the line of this number, from 1, a word begins on requests that are answered later, which
+    /// a CSE that answers at once doesn't read, or which doesn't fit behind what stands before it.
+    LaterWord(usize),
     /// The file failed: its count of faults rose in the call.
     Failed,
     /// Memory ran out.

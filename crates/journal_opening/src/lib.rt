@@ -15,6 +15,9 @@
 //! that was replaced by the snapshot of an entity. Who appends the lines of a deed to a journal has
 //! a journal of one deed more; the laws of this crate say so.
 //!
+//! `begin`, `play`, `is_shut`, `read_bytes` and `set_aside` are the pieces of an opening, for who
+//! plays lines of other kinds between those of deeds.
+//!
 //! ```text
 //! let first = first_text(alloc, &home, clock.now())?;
 //! let mut file = DiskFile::open(rt, "journal", &first)?;
@@ -30,6 +33,7 @@ mod laws;
 mod opening;
 mod playing;
 
+pub use aside::set_aside;
 pub use entity_snapshot::LineFault;
 pub use fault::OpeningFault;
 pub use first::{first_text, snapshot_bytes};
@@ -37,4 +41,5 @@ pub use laws::{
     a_journal_opens_as_its_deeds, a_journal_stays_at_its_home, a_snapshot_is_a_journal,
     deeds_make_an_entity, journals_grow,
 };
-pub use opening::{Played, play_back, play_file};
+pub use opening::{Played, begin, play_back, play_file, read_bytes};
+pub use playing::{fault_at, is_shut, play};

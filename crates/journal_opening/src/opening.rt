@@ -83,7 +83,7 @@ fn begin_at_snapshot<T: Tree>(
 
 /// The entity with which a journal begins, in a tree that has no resource yet, and how many bytes
 /// say so.
-fn begin<T: Tree>(
+pub fn begin<T: Tree>(
     alloc: Global,
     scratch: &mut Scratch,
     bytes: &[u8],
@@ -128,7 +128,7 @@ fn play_bytes<T: Tree>(
 }
 
 /// The bytes of a file.
-fn read_bytes<F: KeptFile>(alloc: Global, file: &mut F) -> Result<Vec<u8>, OpeningFault>
+pub fn read_bytes<F: KeptFile>(alloc: Global, file: &mut F) -> Result<Vec<u8>, OpeningFault>
     requires { F.tells → LeavesThis (F.seen file.old) (F.may_leave file.old) }
     ensures bytes { F.tells → IfOk result (λ bytes. bytes.items ≡ F.seen file.old) }
     ensures stays { F.tells

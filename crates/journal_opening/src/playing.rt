@@ -5,7 +5,8 @@ ghost use Rattle.journal_file.specs.Gates as gates;
 ghost use Rattle.journal_lines.specs.Lines.{first_deed};
 ghost use Rattle.journal_opening.specs.Journals as spec;
 ghost use Rattle.entity_snapshot.specs.Reading.{line_number};
-ghost use Rattle.journal_opening.specs.Playing.{HaltsPlaying, Plays, PlaysFirst, fault_at};
+ghost use Rattle.journal_opening.specs.Playing.{HaltsPlaying, Plays, PlaysFirst, begins_later};
+ghost use Rattle.journal_opening.specs.Playing.{fault_at};
 
 use crate::fault::OpeningFault;
 use cse_machine::{Event, Outcome, step};
@@ -27,7 +28,7 @@ fn event_of(deed: Deed) -> Event
 }
 
 /// Does a deed again.
-fn play<T: Tree>(alloc: Global, entity: &mut Entity<T>, dated: Dated) -> Result<(), OutOfMemory>
+pub fn play<T: Tree>(alloc: Global, entity: &mut Entity<T>, dated: Dated) -> Result<(), OutOfMemory>
     ensures { OnOk result (entity.new ≡ spec.made_by dated entity.old) }
 {
     let Dated { moment, deed } = dated;
@@ -59,7 +60,7 @@ fn play_first<T: Tree>(
 }
 
 /// Whether these bytes count for nothing behind a text.
-fn is_shut(bytes: &[u8]) -> bool
+pub fn is_shut(bytes: &[u8]) -> bool
     ensures { result ≡ gates.is_shut bytes.now }
 {
     match bytes {
@@ -84,14 +85,23 @@ pub(crate) fn line_number(bytes: &[u8], place: usize) -> usize
     ends_in(&bytes[..place]) + 1
 }
 
+/// Whether a word on requests that are answered later begins these bytes.
+fn begins_later(bytes: &[u8]) -> bool
+    ensures { result ≡ begins_later bytes.now }
+{
+    bytes.starts_with(b"@3:")
+}
+
 /// Why no deed begins at a place.
-fn fault_at(bytes: &[u8], place: usize) -> OpeningFault
+pub fn fault_at(bytes: &[u8], place: usize) -> OpeningFault
     requires { place < length bytes.now }
     ensures { result ≡ fault_at bytes.now place }
 {
     let number = line_number(bytes, place);
     if begins_unmarked(&bytes[place..]) {
         OpeningFault::OldDeed(number)
+    } else if begins_later(&bytes[place..]) {
+        OpeningFault::LaterWord(number)
     } else {
         OpeningFault::BadLine(number)
     }

@@ -43,7 +43,7 @@ pub unchanged : (e : EntityData) → ChangesTheMomentAlone e e
 unchanged e = record { same = refl; later = omega arith }
 
 -- and alike from an earlier moment
-swept_made : (reading moment : ℕ) (made e : EntityData) → e.last ≤ last_reading → moment ≡ event_moment e.last reading → ChangesTheMomentAlone made e
+pub swept_made : (reading moment : ℕ) (made e : EntityData) → e.last ≤ last_reading → moment ≡ event_moment e.last reading → ChangesTheMomentAlone made e
     → swept moment made ≡ swept moment e
 swept_made reading moment made e within is same =
     let back : made ≡ at_moment made.last e = sym (ap (at_moment made.last) same.same) in

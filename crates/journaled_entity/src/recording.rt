@@ -140,6 +140,13 @@ impl<T: Tree> Journaled<T> {
         Journaled { alloc, entity }
     }
 
+    /// The entity.
+    pub fn entity(&self) -> &Entity<T>
+        ensures { result.now ≡ self.now }
+    {
+        &self.entity
+    }
+
     /// Where it takes memory.
     fn alloc(&self) -> Global {
         self.alloc

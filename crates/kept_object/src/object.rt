@@ -82,6 +82,49 @@ impl<O, F: KeptFile> KeptObject<O, F> {
     {
         self.journal.file()
     }
+
+    /// The recorder, and what keeps it, without one.
+    pub fn into_parts(self) -> (O, KeptObject<(), F>)
+        ensures object { result.0 ≡ self.object }
+        ensures journal { result.1.journal ≡ self.journal }
+        ensures pending { result.1.pending ≡ self.pending }
+    {
+        let KeptObject {
+            object,
+            journal,
+            pending,
+            most,
+        } = self;
+        let rest = KeptObject {
+            object: (),
+            journal,
+            pending,
+            most,
+        };
+        (object, rest)
+    }
+}
+
+impl<F: KeptFile> KeptObject<(), F> {
+    /// A recorder that is kept by this from now on.
+    pub fn with_recorder<O>(self, object: O) -> KeptObject<O, F>
+        ensures object { result.object ≡ object }
+        ensures journal { result.journal ≡ self.journal }
+        ensures pending { result.pending ≡ self.pending }
+    {
+        let KeptObject {
+            journal,
+            pending,
+            most,
+            ..
+        } = self;
+        KeptObject {
+            object,
+            journal,
+            pending,
+            most,
+        }
+    }
 }
 
 impl<O: Recorder, F: NamedFile> KeptObject<O, F> {

@@ -25,12 +25,12 @@ use Rattle.later_laws.proofs.StaysLemmas.{sound_in_order}
 use Rattle.later_laws.proofs.TurnLemmas.{turn_leads, turns_lead}
 
 -- the accepted request that was run
-abbrev entry_run : Ran → LaterEntryData
+abbrev pub entry_run : Ran → LaterEntryData
 entry_run r = r.entry
 
 -- ---- elements
 
-each_at : {A : Type 0} (P : A → Type 0) (xs : List A) (x : A) → AllByRecursion P xs → Contains xs x → P x
+pub each_at : {A : Type 0} (P : A → Type 0) (xs : List A) (x : A) → AllByRecursion P xs → Contains xs x → P x
 each_at P [] x all has = absurd (contains_none x has)
 each_at P (y ∷ ys) x all has =
     ⊎_elim (λ same. subst P same all.0) (λ behind. each_at P ys x all.1 behind) (contains_one_of y ys x has)
@@ -138,7 +138,7 @@ comes_to_run (e ∷ events) turns past before after x order bounded has there wa
     ]
 
 -- the numbers of what was run
-numbers_run : (turns : List Turn) → all_run_numbers turns ≡ numbers_of (map entry_run (all_ran turns))
+pub numbers_run : (turns : List Turn) → all_run_numbers turns ≡ numbers_of (map entry_run (all_ran turns))
 numbers_run [] = refl
 numbers_run (t ∷ turns) =
     ap (λ (ns : List ℕ). ns ++ all_run_numbers turns) (run_numbers_by t.ran)

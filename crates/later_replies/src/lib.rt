@@ -30,4 +30,4 @@ mod running;
 mod stepping;
 
 pub use entity::LaterEntity;
-pub use stepping::later_step;
+pub use stepping::{answer, asked_by, later_step};

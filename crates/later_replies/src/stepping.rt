@@ -52,8 +52,8 @@ fn outcome_of(given: Option<Result<Reply, OutOfMemory>>, reply: Reply) -> Outcom
     outcome_made(given.unwrap_or(Ok(reply)))
 }
 
-// What comes of a request for which the entity inside has this outcome.
-fn answer(
+/// What comes of a request for which the entity inside has this outcome.
+pub fn answer(
     alloc: Global,
     requests: &mut LaterRequests,
     request: &Request,
@@ -81,8 +81,8 @@ fn answer(
     }
 }
 
-// What a request says, beside these accepted requests.
-fn asked_by<'a, T: Tree>(
+/// What a request says, beside these accepted requests.
+pub fn asked_by<'a, T: Tree>(
     entity: &Entity<T>,
     requests: &LaterRequests,
     request: &'a Request,

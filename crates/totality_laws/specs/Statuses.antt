@@ -1,5 +1,5 @@
 -- Which statuses a CSE gives to what it answers itself (TS-0004, 6.6.3).
-use Rattle.std.specs.Prelude.{ℕ, Bool, true, false, List, [], ◌∷◌, IsTrue, ⊤}
+use Rattle.std.specs.Prelude.{ℕ, Bool, true, false, ◌||◌, List, [], ◌∷◌, IsTrue, ⊤}
 use Rattle.m2m_names.specs.declared.codes.Rsc.{Rsc}
 use Rattle.m2m_names.specs.declared.codes.Rsc.TheVariants.{Accepted, Created, Deleted, Updated}
 use Rattle.m2m_names.specs.declared.codes.Rsc.TheVariants.{Ok as Fine}
@@ -16,6 +16,9 @@ use Rattle.cse_machine.specs.declared.event.Event.TheVariants.{Ask}
 use Rattle.cse_machine.specs.declared.event.Outcome.TheVariants.{Done}
 use Rattle.cse_machine.specs.Step.{Step}
 use Rattle.group_fanout.specs.Fan.{Single, singles_of}
+use Rattle.later_replies.specs.Effects.{is_status}
+use Rattle.later_replies.specs.Entries.{LaterData}
+use Rattle.later_replies.specs.Step.{LaterStep}
 
 -- the CSE gives this status itself: to a request that it serves, or as a reason to refuse one; all
 -- others it passes on from another CSE, or says where memory ran out, or never says
@@ -57,3 +60,14 @@ AreNamed (single ∷ singles) = IsTrue (is_named single.reply.rsc) × AreNamed s
 abbrev pub MembersAreAnsweredByName : Type 0
 MembersAreAnsweredByName =
     (e : EntityData) (requests : List RequestParts) → AreNamed (singles_of e requests)
+
+-- A CSE that answers later gives this status itself: it says besides that a request is accepted.
+abbrev pub is_named_later : Rsc → Bool
+is_named_later told = is_named told || is_status told Accepted
+
+-- So has each reply that a step of a CSE gives which answers later.
+abbrev pub LaterStepsAreAnsweredByName : Type 0
+LaterStepsAreAnsweredByName =
+    (reading : ℕ) (request : RequestParts) (before after : LaterData) (reply : ReplyParts)
+    → LaterStep reading (Ask request) before (Done reply) after
+    → IsTrue (is_named_later reply.rsc)

@@ -1,0 +1,7 @@
+pub mod AnswerLemmas
+pub mod CrashLemmas
+pub mod MachineLemmas
+pub mod OnceLemmas
+pub mod OpenLemmas
+pub mod RecordLemmas
+pub mod RunLemmas

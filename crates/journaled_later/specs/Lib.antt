@@ -1,0 +1,7 @@
+pub mod Crashes
+pub mod Keeping
+pub mod Machine
+pub mod Once
+pub mod Opened
+pub mod Recorded
+pub mod Steps
