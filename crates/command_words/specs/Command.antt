@@ -1,5 +1,6 @@
 -- What the words of a command line ask for.
-use Rattle.std.specs.Prelude.{ℕ, nat_le, ◌&&◌, pos, ℤ, List, [], ◌∷◌, ◌++◌, codes}
+use Rattle.std.specs.Prelude.{ℕ, nat_le, Bool, true, false, ◌&&◌, pos, ℤ, List, [], ◌∷◌, ◌++◌}
+use Rattle.std.specs.Prelude.{codes}
 use Rattle.std.specs.Prelude.{Option, Some, None, is_some, unwrap_or, option_map, option_and_then}
 use Rattle.std.specs.Prelude.{if◌then◌else◌}
 use Rattle.std.specs.Str.{bytes_eq}
@@ -72,6 +73,10 @@ log_option = codes "--log"
 abbrev pub bind_option : List ℕ
 bind_option = codes "--bind"
 
+-- whether requests that ask for it are answered later
+abbrev pub later_option : List ℕ
+later_option = codes "--later"
+
 -- the file in which a CSE is kept
 abbrev pub journal_option : List ℕ
 journal_option = codes "--journal"
@@ -93,11 +98,22 @@ nothing_word = codes "nothing"
 abbrev pub ws_word : List ℕ
 ws_word = codes "ws"
 
+-- that something is done, or isn't
+abbrev pub yes_word : List ℕ
+yes_word = codes "yes"
+
+abbrev pub no_word : List ℕ
+no_word = codes "no"
+
 -- ---- the options that a command takes
 
 -- The options that say what the home of the entity is.
 abbrev pub home_options : List (List ℕ)
 home_options = id_option ∷ base_option ∷ sp_option ∷ admin_option ∷ type_option ∷ []
+
+-- The options that the commands take by which requests are served.
+abbrev pub service_options : List (List ℕ)
+service_options = later_option ∷ journal_option ∷ []
 
 -- The options that only a server takes.
 abbrev pub serving_options : List (List ℕ)
@@ -106,7 +122,7 @@ serving_options =
 
 -- What `http`, `replay`, `twin` and `serve` take, and what `snapshot` takes behind the name of a file.
 abbrev pub http_options : List (List ℕ)
-http_options = home_options ++ journal_option ∷ []
+http_options = home_options ++ service_options
 
 abbrev pub replay_options : List (List ℕ)
 replay_options = home_options
@@ -115,7 +131,7 @@ abbrev pub twin_options : List (List ℕ)
 twin_options = home_options
 
 abbrev pub serve_options : List (List ℕ)
-serve_options = home_options ++ (serving_options ++ journal_option ∷ [])
+serve_options = home_options ++ (serving_options ++ service_options)
 
 abbrev pub snapshot_options : List (List ℕ)
 snapshot_options = home_options
@@ -180,13 +196,15 @@ pub data Bind : Type 0 where
   over_ws : Bind
 
 -- Where a server listens, how many connections it accepts, where that is limited, how many it
--- serves at a time, what it logs, and the protocol that it speaks on each.
+-- serves at a time, what it logs, the protocol that it speaks on each, and whether requests that ask
+-- for it are answered later.
 pub record Serving : Type 0 where
   pub listen : List ℕ
   pub accept : Option ℕ
   pub workers : ℕ
   pub log : Logged
   pub bind : Bind
+  pub later : Bool
 
 -- where a server listens that is told nothing
 abbrev pub usual_address : List ℕ
@@ -226,26 +244,39 @@ abbrev pub bind_said : Option (List ℕ) → Option Bind
 bind_said None = Some over_http
 bind_said (Some text) = bind_in text
 
+-- whether a text says that something is done
+abbrev pub is_yes : List ℕ → Option Bool
+is_yes text = if bytes_eq text yes_word then Some true
+    else if bytes_eq text no_word then Some false
+    else None
+
+-- whether an option says that requests are answered later, or else that they aren't
+abbrev pub later_said : Option (List ℕ) → Option Bool
+later_said None = Some false
+later_said (Some text) = is_yes text
+
 -- the server that options say
 abbrev pub serving_said : List Choice → Option Serving
 serving_said os = option_and_then (λ accept. option_and_then (λ workers.
-    option_and_then (λ log. option_map (λ bind. record {
+    option_and_then (λ log. option_and_then (λ bind. option_map (λ later. record {
       listen = unwrap_or (option_value listen_option os) usual_address;
       accept = accept;
       workers = workers;
       log = log;
       bind = bind;
-    }) (bind_said (option_value bind_option os)))
+      later = later;
+    }) (later_said (option_value later_option os)))
+    (bind_said (option_value bind_option os)))
     (log_said (option_value log_option os)))
     (workers_said (option_value workers_option os)))
     (accept_said (option_value accept_option os))
 
 -- ---- the command
 
--- what is to be done: one connection, a list of lines, such a list for two entities, a server, or so
--- many made requests
+-- what is to be done: one connection, whose requests may be answered later, a list of lines, such a
+-- list for two entities, a server, or so many made requests
 pub data Task : Type 0 where
-  http : Task
+  http : Bool → Task
   replay : Task
   twin : Task
   serve : Serving → Task

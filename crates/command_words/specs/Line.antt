@@ -5,12 +5,13 @@ use Rattle.std.specs.Str.{bytes_eq}
 use Rattle.resource_model.specs.Home.{HomeData, default_home}
 use Rattle.command_words.specs.Options.{Choice, has_dash, in_one_word, option_value, options_in}
 use Rattle.command_words.specs.Command.{Command, Task, http, replay, twin, serve, generate}
-use Rattle.command_words.specs.Command.{count_in, file_said, home_said, serving_said, most_made}
+use Rattle.command_words.specs.Command.{count_in, file_said, home_said, later_said, serving_said}
+use Rattle.command_words.specs.Command.{most_made}
 use Rattle.command_words.specs.Command.{http_word, replay_word, twin_word, serve_word, gen_word}
 use Rattle.command_words.specs.Command.{snapshot_word, help_word, help_option, version_option}
 use Rattle.command_words.specs.Command.{http_options, replay_options, twin_options}
 use Rattle.command_words.specs.Command.{serve_options}
-use Rattle.command_words.specs.Command.{snapshot_options, journal_option}
+use Rattle.command_words.specs.Command.{snapshot_options, journal_option, later_option}
 
 -- What a command line asks for: a command; a command over the journal in the file of a name; that
 -- the journal of a home in such a file is made short; help; or the program's version.
@@ -21,16 +22,37 @@ pub data Asked : Type 0 where
   helps : Asked
   tells_version : Asked
 
--- a command over the journal in a file, where one is named
-abbrev pub over : Option (List ℕ) → Command → Asked
-over None command = runs command
-over (Some file) command = runs_over file command
+-- a command over an entity that can be kept in a file
+abbrev pub may_keep : Task → Bool
+may_keep (http later) = true
+may_keep replay = false
+may_keep twin = false
+may_keep (serve serving) = true
+may_keep (generate n) = false
+
+-- a command over a CSE that answers later, where it is asked so
+abbrev pub answers_later : Task → Bool
+answers_later (http later) = later
+answers_later replay = false
+answers_later twin = false
+answers_later (serve serving) = serving.later
+answers_later (generate n) = false
+
+-- a command over the journal in a file, where one is named: one that may keep its entity
+abbrev pub over : Option (List ℕ) → Command → Option Asked
+over None command = Some (runs command)
+over (Some file) command = if may_keep command.task then Some (runs_over file command) else None
 
 -- a task, with the home and the journal that its options say
 abbrev pub task_at : Task → List Choice → Option Asked
-task_at task os = option_and_then
-    (λ file. option_map (λ home. over file (record { task = task; home = home })) (home_said os))
+task_at task os = option_and_then (λ file. option_and_then
+    (λ home. over file (record { task = task; home = home })) (home_said os))
     (file_said (option_value journal_option os))
+
+-- one connection, as its options say it
+abbrev pub connection_at : List Choice → Option Asked
+connection_at os = option_and_then (λ later. task_at (http later) os)
+    (later_said (option_value later_option os))
 
 -- a server, as its options say it
 abbrev pub server_at : List Choice → Option Asked
@@ -76,7 +98,7 @@ asked_of_itself first words =
 -- or something of the program itself.
 abbrev pub asked_behind : List ℕ → List (List ℕ) → Option Asked
 asked_behind first words =
-    if bytes_eq first http_word then option_and_then (task_at http) (options_in http_options words)
+    if bytes_eq first http_word then option_and_then connection_at (options_in http_options words)
     else if bytes_eq first replay_word then
     option_and_then (task_at replay) (options_in replay_options words)
     else if bytes_eq first twin_word then
@@ -89,19 +111,10 @@ asked_behind first words =
 
 -- ---- a journal that is named in front of the command
 
--- a command over an entity that can be kept in a file
-abbrev pub may_keep : Task → Bool
-may_keep http = true
-may_keep replay = false
-may_keep twin = false
-may_keep (serve serving) = true
-may_keep (generate n) = false
-
 -- What is asked for with the journal in this file in front of it: a command that may keep its
 -- entity and names no journal behind it.
 abbrev pub kept_in : List ℕ → Asked → Option Asked
-kept_in file (runs command) = if may_keep command.task
-    then option_map (λ file. over file command) (file_said (Some file)) else None
+kept_in file (runs command) = option_and_then (λ file. over file command) (file_said (Some file))
 kept_in file (runs_over other command) = None
 kept_in file (shortens other home) = None
 kept_in file helps = None

@@ -51,11 +51,12 @@ serving_by s = record {
   workers = s.workers;
   log = logged_by s.log;
   bind = bind_by s.bind;
+  later = s.later;
 }
 
 -- the task that was read
 abbrev pub task_by : declared_task.Task → Task
-task_by declared_tasks.Http = http
+task_by (declared_tasks.Http later) = http later
 task_by declared_tasks.Replay = replay
 task_by declared_tasks.Twin = twin
 task_by (declared_tasks.Serve serving) = serve (serving_by serving)

@@ -37,7 +37,8 @@ pub enum Bind {
 }
 
 /// Where a server listens, how many connections it accepts, where that is limited, how many it
-/// serves at a time, what it logs, and the protocol that it speaks on each.
+/// serves at a time, what it logs, the protocol that it speaks on each, and whether requests that
+/// ask for it are answered later.
 #[derive(Clone, Copy, Debug)]
 pub struct Serving<'a> {
     pub listen: &'a str,
@@ -45,13 +46,15 @@ pub struct Serving<'a> {
     pub workers: u64,
     pub log: Logged,
     pub bind: Bind,
+    pub later: bool,
 }
 
 /// What is to be done.
 #[derive(Clone, Copy, Debug)]
 pub enum Task<'a> {
-    /// To serve standard input and output as one connection.
-    Http,
+    /// To serve standard input and output as one connection. What it says is whether requests that
+    /// ask for it are answered later.
+    Http(bool),
     /// To answer the lines of standard input.
     Replay,
     /// To compare two entities, each of which lines of standard input prepare.
@@ -231,6 +234,32 @@ fn bind_said(said: Option<&str>) -> Result<Bind, WordFault<'_>>
     }
 }
 
+/// Whether a text says that requests are answered later.
+fn later_in(text: &str) -> Result<bool, WordFault<'_>>
+    ensures { result_ok result ≡ spec.is_yes text.now }
+{
+    if text == names::YES {
+        Ok(true)
+    } else if text == names::NO {
+        Ok(false)
+    } else {
+        Err(WordFault::Value {
+            option: names::LATER,
+            value: text,
+            wanted: Wanted::YesOrNo,
+        })
+    }
+}
+
+pub(crate) fn later_said(said: Option<&str>) -> Result<bool, WordFault<'_>>
+    ensures { result_ok result ≡ spec.later_said (option_map (λ text. text.now) said.entry) }
+{
+    match said {
+        Some(text) => later_in(text),
+        None => Ok(false),
+    }
+}
+
 /// The server that options say.
 pub(crate) fn serving_said<'a>(options: &ArgMatches<'a>) -> Result<Serving<'a>, WordFault<'a>>
     ensures { (os : List Choice) → rows_of (found_of options.now) ≡ rows_by os
@@ -240,12 +269,14 @@ pub(crate) fn serving_said<'a>(options: &ArgMatches<'a>) -> Result<Serving<'a>, 
     let workers = workers_said(option_value(names::WORKERS, options))?;
     let log = log_said(option_value(names::LOG, options))?;
     let bind = bind_said(option_value(names::BIND, options))?;
+    let later = later_said(option_value(names::LATER, options))?;
     Ok(Serving {
         listen: option_value(names::LISTEN, options).unwrap_or(USUAL_ADDRESS),
         accept,
         workers,
         log,
         bind,
+        later,
     })
 }
 

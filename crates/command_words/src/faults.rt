@@ -11,6 +11,8 @@ pub enum Wanted {
     Logged,
     /// A protocol that a server can speak.
     Bind,
+    /// Whether something is done.
+    YesOrNo,
     /// The name of a file.
     File,
     /// A name of 1 to 64 characters.
@@ -27,6 +29,7 @@ impl fmt::Display for Wanted {
             Wanted::Count(most) => write!(f, "a number from 1 to {most}"),
             Wanted::Logged => f.write_str("requests, figures, faults or nothing"),
             Wanted::Bind => f.write_str("http or ws"),
+            Wanted::YesOrNo => f.write_str("yes or no"),
             Wanted::File => f.write_str("the name of a file"),
             Wanted::Name => f.write_str("a name of 1 to 64 letters, digits, -, ., _ and ~"),
             Wanted::BaseName => f.write_str(

@@ -1,7 +1,7 @@
 //! What the program says of itself.
 
 /// The version of the program.
-pub const VERSION: &str = "0.12";
+pub const VERSION: &str = "0.13";
 
 /// What the commands and their options are.
 pub const HELP: &str = "\
@@ -40,7 +40,9 @@ options of serve
   --bind PROTOCOL   the protocol of every connection: http, or ws for
                     WebSocket; http if not said
 
-option of http and serve
+options of http and serve
+  --later ANSWER    whether requests that ask for it are answered later: yes or
+                    no; no if not said
   --journal FILE    keep each change in this file, which is made where there is
                     none; nothing is kept if not said; may stand before the
                     command too

@@ -29,4 +29,4 @@ mod program;
 pub use command::{Bind, Command, Logged, Serving, Task};
 pub use faults::{LineFault, Wanted, WordFault};
 pub use help::{HELP, VERSION};
-pub use line::{Asked, read_command, read_line};
+pub use line::{Asked, answers_later, may_keep, read_command, read_line};

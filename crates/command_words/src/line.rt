@@ -1,17 +1,18 @@
 //! What a command line asks for.
-ghost use Rattle.std.specs.Prelude.{◌≡◌, ◌∷◌, [], IfOk, List, None, map, option_map};
+ghost use Rattle.std.specs.Prelude.{◌≡◌, ◌∷◌, [], IfOk, List, None, Some, map, option_map};
 ghost use Rattle.std.specs.Prelude.{option_and_then};
 ghost use Rattle.clap.specs.Words.{found_of, rows_of};
 ghost use Rattle.command_words.specs.Options.{Choice, in_one_word, options_in};
 ghost use Rattle.command_words.specs.Program.{rows_by};
 ghost use Rattle.command_words.specs.Command.{home_options, http_options, serve_options};
 ghost use Rattle.command_words.specs.Command.{home_said, snapshot_options};
-ghost use Rattle.command_words.specs.Command as commands;
 ghost use Rattle.command_words.specs.Line.{runs};
 ghost use Rattle.command_words.specs.Line as spec;
 ghost use Rattle.command_words.specs.Reading.{Reads, asked_by, command_by, task_by};
 
-use crate::command::{Command, Task, count_said, file_said, option_value, serving_said};
+use crate::command::{
+    Command, Task, count_said, file_said, later_said, option_value, serving_said,
+};
 use crate::faults::{LineFault, WordFault};
 use crate::options::begins_with_dash;
 use crate::program::options_of;
@@ -38,14 +39,46 @@ pub enum Asked<'a> {
 /// As many requests as can be made.
 const MOST_MADE: u64 = 100_000;
 
+/// Whether a task is done over an entity that can be kept in a file.
+pub fn may_keep(task: Task<'_>) -> bool
+    ensures { result ≡ spec.may_keep (task_by task.entry) }
+{
+    match task {
+        Task::Http(_) | Task::Serve(_) => true,
+        Task::Replay | Task::Twin | Task::Generate(_) => false,
+    }
+}
+
+/// Whether a task is done over a CSE that answers later where it is asked so.
+pub fn answers_later(task: Task<'_>) -> bool
+    ensures { result ≡ spec.answers_later (task_by task.entry) }
+{
+    match task {
+        Task::Http(later) => later,
+        Task::Serve(serving) => serving.later,
+        Task::Replay | Task::Twin | Task::Generate(_) => false,
+    }
+}
+
+/// A command over the journal in a file.
+fn over_file<'a>(file: &'a str, command: Command<'a>) -> Result<Asked<'a>, LineFault<'a>>
+    ensures { Reads asked_by (spec.over (Some file.now) (command_by command.entry)) result }
+{
+    if may_keep(command.task) {
+        Ok(Asked::RunOver(file, command))
+    } else {
+        Err(LineFault::Words(WordFault::NoOption(names::JOURNAL)))
+    }
+}
+
 /// A command over the journal in a file, where one is named.
-fn over<'a>(file: Option<&'a str>, command: Command<'a>) -> Asked<'a>
-    ensures { asked_by result
-        ≡ spec.over (option_map (λ text. text.now) file.entry) (command_by command.entry) }
+fn over<'a>(file: Option<&'a str>, command: Command<'a>) -> Result<Asked<'a>, LineFault<'a>>
+    ensures { Reads asked_by
+        (spec.over (option_map (λ text. text.now) file.entry) (command_by command.entry)) result }
 {
     match file {
-        Some(file) => Asked::RunOver(file, command),
-        None => Asked::Run(command),
+        Some(file) => over_file(file, command),
+        None => Ok(Asked::Run(command)),
     }
 }
 
@@ -60,11 +93,11 @@ fn task_at<'a>(
 {
     let file = file_said(option_value(names::JOURNAL, options))?;
     let home = command::home_said(alloc, options)?;
-    Ok(over(file, Command { task, home }))
+    over(file, Command { task, home })
 }
 
 fn http_said<'a>(alloc: Global, words: &'a [&'a str]) -> Result<Asked<'a>, LineFault<'a>>
-    ensures { Reads asked_by (option_and_then (spec.task_at commands.http)
+    ensures { Reads asked_by (option_and_then spec.connection_at
         (options_in http_options (map (λ word. word.now) words.now))) result }
 {
     let taken = [
@@ -73,10 +106,12 @@ fn http_said<'a>(alloc: Global, words: &'a [&'a str]) -> Result<Asked<'a>, LineF
         names::SP,
         names::ADMIN,
         names::TYPE,
+        names::LATER,
         names::JOURNAL,
     ];
     let options = options_of(alloc, &taken, words)?;
-    task_at(alloc, Task::Http, &options)
+    let later = later_said(option_value(names::LATER, &options))?;
+    task_at(alloc, Task::Http(later), &options)
 }
 
 /// A task with the options of a home alone.
@@ -108,6 +143,7 @@ fn serve_said<'a>(alloc: Global, words: &'a [&'a str]) -> Result<Asked<'a>, Line
         names::WORKERS,
         names::LOG,
         names::BIND,
+        names::LATER,
         names::JOURNAL,
     ];
     let options = options_of(alloc, &taken, words)?;
@@ -223,25 +259,12 @@ fn said_behind<'a>(
 
 // ---- a journal that is named in front of the command
 
-/// Whether a task is done over an entity that can be kept in a file.
-fn may_keep(task: Task<'_>) -> bool
-    ensures { result ≡ spec.may_keep (task_by task.entry) }
-{
-    match task {
-        Task::Http | Task::Serve(_) => true,
-        Task::Replay | Task::Twin | Task::Generate(_) => false,
-    }
-}
-
 /// A command over the journal in a file that is named in front of it.
 fn command_kept<'a>(file: &'a str, command: Command<'a>) -> Result<Asked<'a>, LineFault<'a>>
     ensures { Reads asked_by (spec.kept_in file.now (runs (command_by command.entry))) result }
 {
-    if may_keep(command.task) {
-        Ok(over(file_said(Some(file))?, command))
-    } else {
-        Err(LineFault::Words(WordFault::NoOption(names::JOURNAL)))
-    }
+    let file = file_said(Some(file))?;
+    over(file, command)
 }
 
 /// What is asked for with the journal in a file in front of it.

@@ -59,7 +59,14 @@ pub(crate) const BIND: &str = "--bind";
 
 pub(crate) const WS: &str = "ws";
 
-// ---- that of a CSE that is kept
+// ---- those of a CSE that serves requests
+
+/// Whether requests that ask for it are answered later.
+pub(crate) const LATER: &str = "--later";
+
+pub(crate) const YES: &str = "yes";
+
+pub(crate) const NO: &str = "no";
 
 /// The file of the journal.
 pub(crate) const JOURNAL: &str = "--journal";

@@ -3,11 +3,13 @@
 
 mod counted;
 mod journals;
+mod later;
 
 ghost use Rattle.std.specs.Prelude.{◌≤◌, IfOk, vec_len};
 
 use crate::counted::CountedFile;
 use crate::journals::{can_listen_for, own_home, say_differences};
+use crate::later::LaterLog;
 use command_words::{Asked, Command, HELP, LineFault, Logged, Task, VERSION, WordFault, read_line};
 use cse_cli::{Server, run_command, seed, told};
 use cse_server::Bench;
@@ -57,7 +59,7 @@ fn level_of(logged: Logged) -> LogLevel {
 
 /// Whether what waits is sent behind this task: the lines of a replay show it instead.
 fn sends(task: Task<'_>) -> bool {
-    matches!(task, Task::Http | Task::Serve(_))
+    matches!(task, Task::Http(_) | Task::Serve(_))
 }
 
 /// The settings that a command gives; at every other command than `serve` those of one worker that
@@ -262,7 +264,12 @@ fn say(rt: &HostRuntime, text: &str) -> ExitCode {
 struct Devices {
     log: Log<HostRuntime>,
     first: Bench<SystemClock<HostRuntime>, TcpLink<HostRuntime>>,
-    server: Server<TcpDoor<HostRuntime>, SystemClock<HostRuntime>, TcpLink<HostRuntime>>,
+    server: Server<
+        TcpDoor<HostRuntime>,
+        SystemClock<HostRuntime>,
+        TcpLink<HostRuntime>,
+        LaterLog<HostRuntime>,
+    >,
 }
 
 /// The devices of a command.
@@ -276,11 +283,16 @@ fn devices_for(
     let benches = all_benches(rt, &log, settings.workers)?;
     let first = first_bench(rt, &log, settings.sends)?;
     let own = log.again()?;
+    let observer = LaterLog::new(log.again()?);
     let door = TcpDoor::new(log, settings.whom);
     Ok(Devices {
         log: own,
         first,
-        server: Server { door, benches },
+        server: Server {
+            door,
+            benches,
+            observer,
+        },
     })
 }
 

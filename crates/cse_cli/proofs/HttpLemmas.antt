@@ -1,5 +1,5 @@
 -- Streams that were lent to a connection, and how it ended.
-use Rattle.std.proofs.Common.{◌≡◌, ◌≢◌, ◌↔◌, ◌⊎◌, ℕ, List, ◌∷◌, [], Option, get_or, inl, inr, sym, ap, subst, ◌∙◌}
+use Rattle.std.proofs.Common.{◌≡◌, ◌≢◌, ◌↔◌, ◌⊎◌, ℕ, Bool, List, ◌∷◌, [], Option, get_or, inl, inr, sym, ap, subst, ◌∙◌}
 use Rattle.m2m_io.specs.declared.status.Status.{Status}
 use Rattle.m2m_io.specs.declared.status.Status.TheVariants.{ReadFault, WriteFault, Memory}
 use Rattle.cse_server.specs.Outside.{EndsByFault, LinkTold, Outside, SinkTold, outside}
@@ -10,7 +10,7 @@ use Rattle.desk_replies.specs.Rule.{ReplyRule}
 use Rattle.cse_server.specs.Connection.{Serves}
 use Rattle.resource_model.specs.Home.{HomeData}
 use Rattle.entity_model.specs.Entity.{EntityData}
-use Rattle.cse_cli.specs.Run.{ServesOpened}
+use Rattle.cse_cli.specs.Run.{ServesEntityAt}
 use Rattle.cse_server.specs.declared.connection.Ended.{Ended}
 use Rattle.cse_server.specs.declared.connection.Ended.TheVariants.{ReadFault as EndedReading, WriteFault as EndedWriting}
 
@@ -74,8 +74,7 @@ serves_same {S = S} rule grown seat before after left0 left1 old0 old1 given lin
     (subst (λ (v : Option (List ℕ)). Serves rule grown seat after (outside v old1 given link) new ended) l
     (subst (λ (v : SinkTold). Serves rule grown seat after (outside left0 v given link) new ended) o h))
 
--- the entity that was served is this one
-pub streams_served : {home : HomeData} {served opened : EntityData} {old new : Outside} {status : Status}
-    → served ≡ opened → ServesOpened home served old new status → ServesOpened home opened old new status
-streams_served {home = home} {old = old} {new = new} {status = status} is run =
-    subst (λ (e : EntityData). ServesOpened home e old new status) is run
+-- the entity that served is this one
+pub streams_served : (later : Bool) (home : HomeData) {entity opened : EntityData} (old new : Outside) (status : Status)
+    → entity ≡ opened → ServesEntityAt later home entity old new status → ServesEntityAt later home opened old new status
+streams_served later home old new status is run = subst (λ (e : EntityData). ServesEntityAt later home e old new status) is run

@@ -5,3 +5,4 @@ pub mod RunningLemmas
 pub mod TreesSent
 pub mod OutboxSent
 pub mod EntitiesSent
+pub mod LaterSent

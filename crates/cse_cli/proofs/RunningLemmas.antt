@@ -22,7 +22,7 @@ no_fault other = record { count = omega arith; cause = λ e. absurd (other e); s
 module _ {S O C L D : Type 0} (served : HomeData → Serving → EntityData → Bench C L → Bench C L → Type 0) where
   -- memory ran out before a task was done
   starved_task : (task : Task) (home : HomeData) (devices : Devices S O C L D) → RunsTask served task home devices devices Memory
-  starved_task http home devices = record {
+  starved_task (http later) home devices = record {
     done = inr (record { status_is = refl; same = refl });
     no_usage = λ e. cc;
     reads = no_fault (λ e. cc);

@@ -41,19 +41,21 @@ module _ {S O C L D : Type 0} where
     pub out : new.out ≡ old.out
 
   -- A task was done at this home. With `http` an entity opens at the first reading of the clock,
-  -- and the output gets exactly the replies that the machine gives the requests of the input, one
-  -- after another, as far as the status says; in the reply to a fan-out stands of each member at
-  -- another CSE what a request of its own gives, which the machine takes behind it. With `replay`
-  -- the entity opens at the reading 0, and the output gets exactly the script of the lines of the
-  -- input, in which no member at another CSE is asked. With `twin` two entities open at the
-  -- reading 0, and the output gets exactly whether an originator has the same sight of both, and
-  -- what comes of its requests in both. With `serve` an entity opens at the first reading of the
-  -- clock, the door is opened where the words say, and its connections are `served` by that entity
-  -- until it gives no more. With `gen` the output gets exactly the line on the made requests, which
-  -- an entity with the default home takes that opens at the reading 0.
+  -- and the output gets exactly the replies that the machine gives the requests of the input, or
+  -- those of a CSE that answers later, one after another, as far as the status says; in the reply
+  -- to a fan-out stands of each member at another CSE what a request of its own gives, which the
+  -- machine takes behind it. With `replay` the entity opens at the reading 0, and the output gets
+  -- exactly the script of the lines of the input, in which no member at another CSE is asked. With
+  -- `twin` two entities open at the reading 0, and the output gets exactly whether an originator
+  -- has the same sight of both, and what comes of its requests in both. With `serve` an entity
+  -- opens at the first reading of the clock, the door is opened where the words say, and its
+  -- connections are `served` by that entity until it gives no more. With `gen` the output gets
+  -- exactly the line on the made requests, which an entity with the default home takes that opens
+  -- at the reading 0.
   abbrev pub RunsTask : (HomeData → Serving → EntityData → Bench C L → Bench C L → Type 0) → Task
       → HomeData → Devices S O C L D → Devices S O C L D → Status → Type 0
-  RunsTask served http home old new status = RunsStreams (RunsHttp home) old new status
+  RunsTask served (http later) home old new status =
+      RunsStreams (RunsHttp later home) old new status
   RunsTask served replay home old new status = RunsStreams (RunsReplay home) old new status
   RunsTask served twin home old new status = RunsStreams (RunsTwin home) old new status
   RunsTask served (serve serving) home old new status =

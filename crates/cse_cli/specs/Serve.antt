@@ -1,5 +1,6 @@
 -- What the command `serve` does with its door, and what its entity becomes.
-use Rattle.std.specs.Prelude.{◌≡◌, ◌⊎◌, ◌+◌, ◌++◌, ◌∷◌, [], Option, Some, List, ℕ, max, take}
+use Rattle.std.specs.Prelude.{◌≡◌, ◌⊎◌, ◌+◌, ◌++◌, ◌∷◌, [], Bool, true, false, Option, Some, List}
+use Rattle.std.specs.Prelude.{ℕ, max, take}
 use Rattle.m2m_io.specs.Counts.{Rose}
 use Rattle.m2m_io.specs.Told.{Tells, TellsStill}
 use Rattle.m2m_io.specs.declared.status.Status.{Status}
@@ -15,11 +16,15 @@ use Rattle.entity_model.specs.Opening.{opening}
 use Rattle.cse_machine.specs.Step.{Step}
 use Rattle.cse_machine.specs.declared.event.Event.{Event}
 use Rattle.cse_machine.specs.declared.event.Outcome.{Outcome}
-use Rattle.cse_server.specs.Attending.{AttendsBy, ConnTold, TalksHttp}
+use Rattle.cse_server.specs.Attending.{AttendsBy, ConnTold, SeatGrows, SendsFrom, TalksHttp}
 use Rattle.cse_server.specs.Outside.{LinkTold}
 use Rattle.cse_server.specs.declared.bench.Bench.{Bench}
 use Rattle.cse_server.specs.declared.binding.Attended.{Attended}
+use Rattle.desk_replies.specs.Rule.{plainly}
+use Rattle.later_replies.specs.Entries.{opened as begun}
+use Rattle.later_replies.specs.Step.{LaterStep}
 use Rattle.remote_members.specs.Wide.{wide}
+use Rattle.ws_binding.specs.Binding.{TalksWs}
 use Rattle.workers.specs.declared.gate.Ending.TheVariants.{Fault}
 use Rattle.workers.specs.Gate.{DoorTold, TakesConnections, ServesDoor}
 use Rattle.workers.specs.Serving.{GainsByServing}
@@ -98,19 +103,34 @@ abbrev pub ByBind : Bind → Type 0 → Type 0 → Type 0
 ByBind over_http http ws = http
 ByBind over_ws http ws = ws
 
--- Connections were attended to by an entity that opened as this one, each as HTTP at this home or
--- each as a WebSocket, as the words say, by as many workers as they say, where there are benches
--- for so many, beside an errand.
-abbrev pub ServesEntity : {C B A W : Type 0}
-    → (HomeData → DeskSeat EntityData Event Outcome → C → B
-    → DeskSeat EntityData Event Outcome → A → B → Type 0)
-    → (DeskSeat EntityData Event Outcome → C → B
-    → DeskSeat EntityData Event Outcome → W → B → Type 0)
-    → (DeskSeat EntityData Event Outcome → B → DeskSeat EntityData Event Outcome → B → Type 0)
-    → List B → HomeData → Serving → EntityData → B → B → Type 0
-ServesEntity http ws does benches home serving opened old new = ByBind serving.bind
-    (ServesObject Step (http home) does (take (max 1 serving.workers + 1) benches) opened old new)
-    (ServesObject Step ws does (take (max 1 serving.workers + 1) benches) opened old new)
+-- Connections were attended to by a CSE with these steps, which opened as this object, each as HTTP
+-- at this home or each as a WebSocket, as the words say, by as many workers as they say, where there
+-- are benches for so many, beside a sender of what waits in its outbox.
+abbrev pub ServesBound : {O X C L : Type 0} → (ℕ → Event → O → Outcome → O → Type 0)
+    → (X → ConnTold) → (C → Option (List ℕ)) → (L → LinkTold) → List (Bench C L) → HomeData
+    → Serving → O → Bench C L → Bench C L → Type 0
+ServesBound {X = X} step conn clock link benches home serving object old new =
+    ByBind serving.bind
+    (ServesObject step (AttendsWidely SeatGrows conn clock link home)
+    (SendsFrom SeatGrows clock link) (take (max 1 serving.workers + 1) benches) object old new)
+    (ServesObject step (AttendsBy SeatGrows (TalksWs {X = X} plainly) clock link)
+    (SendsFrom SeatGrows clock link) (take (max 1 serving.workers + 1) benches) object old new)
+
+-- Connections were so attended to by an entity that opened as this one. Its steps are those of the
+-- machine, or, where the words say that requests are answered later, those of a CSE that does so.
+abbrev pub ServesAs : {X C L : Type 0} → Bool → (X → ConnTold) → (C → Option (List ℕ))
+    → (L → LinkTold) → List (Bench C L) → HomeData → Serving → EntityData
+    → Bench C L → Bench C L → Type 0
+ServesAs false conn clock link benches home serving opened old new =
+    ServesBound Step conn clock link benches home serving opened old new
+ServesAs true conn clock link benches home serving opened old new =
+    ServesBound LaterStep conn clock link benches home serving (begun opened) old new
+
+abbrev pub ServesEntity : {X C L : Type 0} → (X → ConnTold) → (C → Option (List ℕ))
+    → (L → LinkTold) → List (Bench C L) → HomeData → Serving → EntityData
+    → Bench C L → Bench C L → Type 0
+ServesEntity conn clock link benches home serving opened old new =
+    ServesAs serving.later conn clock link benches home serving opened old new
 
 -- A server with this first bench, whose clock gives one reading: at it the entity with this home
 -- opens, by which the connections of the door are then `served`, which changes the bench at its

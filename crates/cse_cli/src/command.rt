@@ -6,14 +6,12 @@ ghost use Rattle.command_words.specs.Line.{command_in};
 ghost use Rattle.command_words.specs.Reading.{task_by};
 ghost use Rattle.cse_cli.specs.Devices.{devices_by};
 ghost use Rattle.cse_cli.specs.Running.{RunsCommand, RunsTask};
-ghost use Rattle.cse_cli.specs.Serve.{AttendsWidely, ServesEntity};
-ghost use Rattle.cse_server.specs.Attending.{AttendsBy, SeatGrows, SendsFrom, conn_tells};
-ghost use Rattle.cse_server.specs.Attending.{link_tells};
-ghost use Rattle.desk_replies.specs.Rule.{plainly};
+ghost use Rattle.cse_cli.specs.Serve.{ServesEntity};
+ghost use Rattle.cse_server.specs.Attending.{conn_tells, link_tells};
 ghost use Rattle.workers.specs.Gate.{door_tells};
-ghost use Rattle.ws_binding.specs.Binding.{TalksWs};
 
 use crate::http::serve_streams;
+use crate::observed::{NoObserver, RunObserver};
 use crate::replay::replay_lines;
 use crate::serve::serve_door;
 use crate::server::Server;
@@ -37,6 +35,7 @@ pub fn run_command<
     D: Door + Send,
     C: Clock + Send,
     L: Link + ItemObserver + Send,
+    W: RunObserver + Send,
 >(
     rt: &R,
     alloc: Global,
@@ -44,33 +43,40 @@ pub fn run_command<
     input: &mut S,
     out: &mut O,
     first: &mut Bench<C, L>,
-    server: Server<D, C, L>,
+    server: Server<D, C, L, W>,
 ) -> (Status, D)
 where
     R: Wait + Threads + time::Clock + Clone + Drop + Sync,
     C: Drop,
     D::Conn: ReplyObserver,
     L: Drop,
+    W: Drop,
     ensures { let devices = devices_by S.left S.faults O.written O.puts O.faults C.readings
         (link_tells L.exchanges L.faults) (door_tells D.opened D.given D.ended D.faults) in
-        let http = AttendsWidely SeatGrows
-        (conn_tells D.Conn.left D.Conn.written D.Conn.puts D.Conn.Source.faults
-        D.Conn.Sink.faults) C.readings (link_tells L.exchanges L.faults) in
-        let ws = AttendsBy SeatGrows (TalksWs plainly) C.readings
-        (link_tells L.exchanges L.faults) in
-        let sends = SendsFrom SeatGrows C.readings (link_tells L.exchanges L.faults) in
-        RunsTask (ServesEntity http ws sends server.benches.items)
+        let conn = conn_tells D.Conn.left D.Conn.written D.Conn.puts
+        D.Conn.Source.faults D.Conn.Sink.faults in
+        let link = link_tells L.exchanges L.faults in
+        RunsTask (ServesEntity conn C.readings link server.benches.items)
         (task_by command.entry.task) command.entry.home
         (devices input.old out.old first.old server.door)
         (devices input.new out.new first.new result.1) result.0 }
 {
     let Command { task, home } = command;
-    let Server { door, benches } = server;
+    let Server {
+        door,
+        benches,
+        observer,
+    } = server;
     match task {
-        Task::Http => (serve_streams(alloc, home, input, out, first), door),
+        Task::Http(later) => (
+            serve_streams(rt, alloc, home, later, input, out, first),
+            door,
+        ),
         Task::Replay => (replay_lines(alloc, home, input, out, first), door),
         Task::Twin => (compare_lines(alloc, home, input, out), door),
-        Task::Serve(serving) => serve_door(rt, alloc, home, serving, door, first, benches),
+        Task::Serve(serving) => serve_door(
+            rt, alloc, home, serving, observer, door, first, benches,
+        ),
         Task::Generate(requests) => (generate(alloc, requests, out), door),
     }
 }
@@ -92,8 +98,9 @@ pub fn told<E: Sink, X>(err: &mut E, ended: (Status, X)) -> (Status, X)
 /// as one connection, `replay` answers the lines of `input`, `twin` compares two entities that
 /// these prepare, `serve` opens the door and serves its connections, each by a worker, and `gen`
 /// makes so many requests and writes a line on what they are answered. The options say the home of
-/// the entities, and at `serve` where the door is opened, how many connections are accepted, and
-/// whether each is one of HTTP or a WebSocket.
+/// the entities, at `http` and `serve` whether requests that ask for it are answered later, and at
+/// `serve` where the door is opened, how many connections are accepted, and whether each is one of
+/// HTTP or a WebSocket.
 pub fn run<
     R,
     S: Source,
@@ -124,13 +131,10 @@ where
     // that are none.
     ensures runs { let devices = devices_by S.left S.faults O.written O.puts O.faults C.readings
         (link_tells L.exchanges L.faults) (door_tells D.opened D.given D.ended D.faults) in
-        let http = AttendsWidely SeatGrows
-        (conn_tells D.Conn.left D.Conn.written D.Conn.puts D.Conn.Source.faults
-        D.Conn.Sink.faults) C.readings (link_tells L.exchanges L.faults) in
-        let ws = AttendsBy SeatGrows (TalksWs plainly) C.readings
-        (link_tells L.exchanges L.faults) in
-        let sends = SendsFrom SeatGrows C.readings (link_tells L.exchanges L.faults) in
-        RunsCommand (ServesEntity http ws sends benches.items)
+        let conn = conn_tells D.Conn.left D.Conn.written D.Conn.puts
+        D.Conn.Source.faults D.Conn.Sink.faults in
+        let link = link_tells L.exchanges L.faults in
+        RunsCommand (ServesEntity conn C.readings link benches.items)
         (command_in (map (λ word. word.now) words.now))
         (devices input.old out.old first.old door)
         (devices input.new out.new first.new result.1) result.0 }
@@ -150,7 +154,11 @@ where
                 input,
                 out,
                 first,
-                Server { door, benches },
+                Server {
+                    door,
+                    benches,
+                    observer: NoObserver,
+                },
             ),
         ),
         Ok(None) => told(err, (Status::Usage, door)),

@@ -3,17 +3,22 @@ ghost use Rattle.std.specs.Prelude.{◌≡◌, ◌≢◌, ◌↔◌, ◌⊎◌, 
 ghost use Rattle.cse_server.specs.Outside.{EndsByFault, SinkTold, link_told, outside};
 ghost use Rattle.cse_server.specs.Outside.{sink_told};
 ghost use Rattle.entity_model.specs.Opening.{opening};
-ghost use Rattle.cse_cli.specs.Run.{EndsBehind, SendsBehind, ServesOpened, ServesStreams};
+ghost use Rattle.cse_cli.specs.Run.{EndsBehind, SendsBehind, ServesEntityAt, ServesOpened};
+ghost use Rattle.cse_cli.specs.Run.{ServesStreams};
 
+use crate::seeding::seed;
+use cse_machine::{Event, Outcome};
 use cse_server::{Bench, Ended, Served, Wire, send_alone, serve_alone};
 use entity_model::Entity;
+use later_replies::LaterEntity;
 use m2m_io::{Clock, Link, Sink, Source, Status};
 use remote_members::Wide;
 use resource_tree::IndexTree;
 use service_observer::ItemObserver;
 use std::alloc::{AllocError as OutOfMemory, Global};
+use std::time;
 use tree_model::Home;
-use turn_desk::OwnSeat;
+use turn_desk::{Object, OwnSeat};
 
 /// The entity with this home, as it opens at a reading of the clock. Its tables hang on the seed.
 pub(crate) fn opened(
@@ -21,23 +26,27 @@ pub(crate) fn opened(
     home: Home,
     reading: u64,
     seed: u64,
-) -> Result<Served<IndexTree>, OutOfMemory>
-    ensures { IfOk result (λ served. served ≡ opening home reading) }
+) -> Result<Entity<IndexTree>, OutOfMemory>
+    ensures { IfOk result (λ entity. entity ≡ opening home reading) }
 {
     let entity = Entity::open(alloc, home, IndexTree::seeded(alloc, seed), reading)?;
-    Ok(Served::new(alloc, entity))
+    Ok(entity)
 }
 
-/// Sends the items of the outbox of the entity at a seat. The status is this one, unless memory
+/// Sends the items of the outbox of the object at a seat. The status is this one, unless memory
 /// runs out.
-fn send_behind<C: Clock, L: Link + ItemObserver>(
+fn send_behind<X, C, L>(
     alloc: Global,
-    seat: &mut OwnSeat<Served<IndexTree>>,
+    seat: &mut OwnSeat<X>,
     bench: &mut Bench<C, L>,
     whole: Status,
 ) -> Status
+where
+    X: Object<Event = Event, Outcome = Outcome>,
+    C: Clock,
+    L: Link + ItemObserver,
     ensures sends { (left : Option (List ℕ)) → (out : SinkTold)
-        → SendsBehind seat.old seat.new (outside left out (C.readings bench.old.clock)
+        → SendsBehind X.step seat.old seat.new (outside left out (C.readings bench.old.clock)
         (link_told (L.exchanges bench.old.link) (L.faults bench.old.link)))
         (outside left out (C.readings bench.new.clock)
         (link_told (L.exchanges bench.new.link) (L.faults bench.new.link))) whole result }
@@ -52,14 +61,18 @@ fn send_behind<C: Clock, L: Link + ItemObserver>(
 
 /// What is done behind a connection that ended so: where it was closed, or what was left of it was
 /// no message, the items of the outbox are sent.
-fn finish<C: Clock, L: Link + ItemObserver>(
+fn finish<X, C, L>(
     alloc: Global,
-    seat: &mut OwnSeat<Served<IndexTree>>,
+    seat: &mut OwnSeat<X>,
     bench: &mut Bench<C, L>,
     ended: Ended,
 ) -> Status
+where
+    X: Object<Event = Event, Outcome = Outcome>,
+    C: Clock,
+    L: Link + ItemObserver,
     ensures behind { (left : Option (List ℕ)) → (out : SinkTold)
-        → EndsBehind ended seat.old seat.new (outside left out (C.readings bench.old.clock)
+        → EndsBehind X.step ended seat.old seat.new (outside left out (C.readings bench.old.clock)
         (link_told (L.exchanges bench.old.link) (L.faults bench.old.link)))
         (outside left out (C.readings bench.new.clock)
         (link_told (L.exchanges bench.new.link) (L.faults bench.new.link))) result }
@@ -76,28 +89,34 @@ fn finish<C: Clock, L: Link + ItemObserver>(
     }
 }
 
-/// Serves input and output as one connection of an entity that opened for this home, also for
-/// members of groups at other CSEs, and sends the items that this leaves in the outbox.
-fn serve_opened<S: Source, O: Sink, C: Clock, L: Link + ItemObserver>(
+/// Serves input and output as one connection of an object with this home, also for members of
+/// groups at other CSEs, and sends the items that this leaves in the outbox.
+fn serve_object<X, S, O, C, L>(
     alloc: Global,
     home: &Home,
-    served: Served<IndexTree>,
+    object: X,
     input: &mut S,
     out: &mut O,
     bench: &mut Bench<C, L>,
 ) -> Status
-    ensures runs { let old = outside (S.left input.old)
+where
+    X: Object<Event = Event, Outcome = Outcome> + Drop,
+    S: Source,
+    O: Sink,
+    C: Clock,
+    L: Link + ItemObserver,
+    ensures serves { let old = outside (S.left input.old)
         (sink_told (O.written out.old) (O.puts out.old)) (C.readings bench.old.clock)
         (link_told (L.exchanges bench.old.link) (L.faults bench.old.link)) in
         let new = outside (S.left input.new)
         (sink_told (O.written out.new) (O.puts out.new)) (C.readings bench.new.clock)
         (link_told (L.exchanges bench.new.link) (L.faults bench.new.link)) in
-        ServesOpened home.now served old new result }
+        ServesOpened X.step object home.now old new result }
     ensures command { result ≢ Status.Usage }
     ensures reads { EndsByFault Status.ReadFault result (S.faults input.old) (S.faults input.new) }
     ensures writes { EndsByFault Status.WriteFault result (O.faults out.old) (O.faults out.new) }
 {
-    let mut seat = OwnSeat::new(served);
+    let mut seat = OwnSeat::new(object);
     let mut wire = Wire::new(input, out);
     let replier = Wide { home };
     let ended = serve_alone(
@@ -111,11 +130,45 @@ fn serve_opened<S: Source, O: Sink, C: Clock, L: Link + ItemObserver>(
     finish(alloc, &mut seat, bench, ended)
 }
 
-/// Opens an entity with this home at the clock's first reading, and serves input and output as one
-/// connection of it.
-pub(crate) fn serve_streams<S: Source, O: Sink, C: Clock, L: Link + ItemObserver>(
+/// Serves input and output as one connection of an entity with this home. Where it is said so,
+/// requests that ask for it are answered later.
+fn serve_entity<S: Source, O: Sink, C: Clock, L: Link + ItemObserver>(
+    alloc: Global,
+    home: &Home,
+    entity: Entity<IndexTree>,
+    later: bool,
+    input: &mut S,
+    out: &mut O,
+    bench: &mut Bench<C, L>,
+) -> Status
+    ensures serves { let old = outside (S.left input.old)
+        (sink_told (O.written out.old) (O.puts out.old)) (C.readings bench.old.clock)
+        (link_told (L.exchanges bench.old.link) (L.faults bench.old.link)) in
+        let new = outside (S.left input.new)
+        (sink_told (O.written out.new) (O.puts out.new)) (C.readings bench.new.clock)
+        (link_told (L.exchanges bench.new.link) (L.faults bench.new.link)) in
+        ServesEntityAt later home.now entity old new result }
+    ensures command { result ≢ Status.Usage }
+    ensures reads { EndsByFault Status.ReadFault result (S.faults input.old) (S.faults input.new) }
+    ensures writes { EndsByFault Status.WriteFault result (O.faults out.old) (O.faults out.new) }
+{
+    if later {
+        let object = LaterEntity::new(alloc, entity);
+        serve_object(alloc, home, object, input, out, bench)
+    } else {
+        let served = Served::new(alloc, entity);
+        serve_object(alloc, home, served, input, out, bench)
+    }
+}
+
+/// Opens an entity with this home at the clock's first reading, serves input and output as one
+/// connection, also for members of groups at other CSEs, and sends the items that this leaves in the
+/// outbox. Where it is said so, requests that ask for it are answered later.
+pub(crate) fn serve_streams<R: time::Clock, S: Source, O: Sink, C: Clock, L: Link + ItemObserver>(
+    rt: &R,
     alloc: Global,
     home: Home,
+    later: bool,
     input: &mut S,
     out: &mut O,
     bench: &mut Bench<C, L>,
@@ -126,7 +179,7 @@ pub(crate) fn serve_streams<S: Source, O: Sink, C: Clock, L: Link + ItemObserver
         let new = outside (S.left input.new)
         (sink_told (O.written out.new) (O.puts out.new)) (C.readings bench.new.clock)
         (link_told (L.exchanges bench.new.link) (L.faults bench.new.link)) in
-        ServesStreams home old new result }
+        ServesStreams later home old new result }
     ensures command { result ≢ Status.Usage }
     ensures reads { EndsByFault Status.ReadFault result (S.faults input.old) (S.faults input.new) }
     ensures writes { EndsByFault Status.WriteFault result (O.faults out.old) (O.faults out.new) }
@@ -135,8 +188,8 @@ pub(crate) fn serve_streams<S: Source, O: Sink, C: Clock, L: Link + ItemObserver
     let Ok(own) = home.copy(alloc) else {
         return Status::Memory;
     };
-    match opened(alloc, own, reading, 0) {
-        Ok(served) => serve_opened(alloc, &home, served, input, out, bench),
-        Err(_) => Status::Memory,
-    }
+    let Ok(entity) = opened(alloc, own, reading, seed(rt)) else {
+        return Status::Memory;
+    };
+    serve_entity(alloc, &home, entity, later, input, out, bench)
 }

@@ -20,11 +20,15 @@
 
 mod command;
 mod http;
+mod observed;
 mod replay;
+mod seeding;
 mod serve;
 mod server;
 mod twin;
 
 pub use command::{run, run_command, told};
-pub use serve::{benches_for, seed};
+pub use observed::{NoObserver, RunObserver, tell_runs};
+pub use seeding::seed;
+pub use serve::benches_for;
 pub use server::Server;

@@ -3,17 +3,19 @@ ghost use Rattle.std.specs.Prelude.{◌≡◌, ◌≢◌, ◌≤◌, ◌+◌, ma
 ghost use Rattle.command_words.specs.Reading.{serving_by};
 ghost use Rattle.cse_server.specs.Attending.{AttendsBy, SeatGrows, SendsFrom, conn_tells};
 ghost use Rattle.cse_server.specs.Attending.{link_tells};
-ghost use Rattle.desk_replies.specs.Rule.{plainly};
-ghost use Rattle.ws_binding.specs.Binding.{TalksWs};
 ghost use Rattle.workers.specs.Gate.{door_tells};
-ghost use Rattle.cse_cli.specs.Serve.{AttendsWidely, OpensServer, ServesEntity, ServesObject};
+ghost use Rattle.cse_cli.specs.Serve.{OpensServer, ServesBound, ServesEntity, ServesObject};
 ghost use Rattle.cse_cli.specs.Serve.{ServesOpen};
 
 use crate::http::opened;
+use crate::observed::{ObservedLater, RunObserver};
+use crate::seeding::seed;
 use command_words::{Bind, Serving};
 use cse_machine::{Event, Outcome};
 use cse_server::{Attended, Bench, ServeFault, Served, serve_by};
 use desk_replies::{Binding, Plainly};
+use entity_model::Entity;
+use later_replies::LaterEntity;
 use m2m_io::{Clock, Door, Link, Status};
 use remote_members::WideService;
 use resource_tree::IndexTree;
@@ -21,8 +23,7 @@ use service_observer::{ItemObserver, ReplyObserver};
 use std::alloc::Global;
 use std::sync::Wait;
 use std::thread::Threads;
-use std::time::Duration;
-use std::{io, time};
+use std::time;
 use tree_model::Home;
 use turn_desk::{Object, TurnDesk};
 use ws_binding::{Talked, WsBinding};
@@ -95,31 +96,15 @@ pub fn benches_for<C: Clock + Drop, L: Link + Drop>(
     benches
 }
 
-fn nanos_of(time: io::Result<Duration>) -> u64 {
-    match time {
-        Ok(time) => time
-            .as_secs()
-            .wrapping_mul(1_000_000_000)
-            .wrapping_add(time.subsec_nanos() as u64),
-        Err(_) => 0,
-    }
-}
-
-/// What clients don't know, for the tables of an entity: how long the machine has run, and the
-/// moment, in nanoseconds.
-pub fn seed<R: time::Clock>(rt: &R) -> u64 {
-    nanos_of(rt.monotonic()) ^ nanos_of(rt.since_1970())
-}
-
-/// Serves the connections of an open door by an entity of this home, each by the protocol that the
+/// Serves the connections of an open door by an object of this home, each by the protocol that the
 /// words say, of which as many are accepted at most as they say, by as many workers as they say,
 /// beside a sender of what waits in its outbox. Over HTTP members of groups at other CSEs are asked
 /// as well.
-fn serve_bound<R, D, C, L>(
+fn serve_bound<R, O, D, C, L>(
     rt: &R,
     own_rt: R,
     alloc: Global,
-    served: Served<IndexTree>,
+    object: O,
     home: Home,
     serving: Serving<'_>,
     door: D,
@@ -128,20 +113,18 @@ fn serve_bound<R, D, C, L>(
 ) -> (Status, D)
 where
     R: Wait + Threads + Drop + Sync,
+    O: Object<Event = Event, Outcome = Outcome> + Send + Drop,
     D: Door + Send,
     D::Conn: ReplyObserver,
     C: Clock + Send + Drop,
     L: Link + ItemObserver + Send + Drop,
     requires benches { 2 ≤ vec_len benches }
-    ensures serves { let http = AttendsWidely SeatGrows
-        (conn_tells D.Conn.left D.Conn.written D.Conn.puts D.Conn.Source.faults
-        D.Conn.Sink.faults) C.readings (link_tells L.exchanges L.faults) in
-        let ws = AttendsBy SeatGrows (TalksWs plainly) C.readings
-        (link_tells L.exchanges L.faults) in
-        let sends = SendsFrom SeatGrows C.readings (link_tells L.exchanges L.faults) in
-        ServesOpen (ServesEntity http ws sends benches.items home (serving_by serving.entry) served
-        first.old first.new) (first.new ≡ first.old) serving.entry.accept
-        (door_tells D.opened D.given D.ended D.faults door)
+    ensures serves { let conn = conn_tells D.Conn.left D.Conn.written D.Conn.puts
+        D.Conn.Source.faults D.Conn.Sink.faults in
+        let link = link_tells L.exchanges L.faults in
+        ServesOpen (ServesBound O.step conn C.readings link benches.items home
+        (serving_by serving.entry) object first.old first.new) (first.new ≡ first.old)
+        serving.entry.accept (door_tells D.opened D.given D.ended D.faults door)
         (door_tells D.opened D.given D.ended D.faults result.1) result.0 }
     ensures command { result.0 ≢ Status.Usage }
 {
@@ -150,45 +133,91 @@ where
     match serving.bind {
         Bind::Http => {
             let binding = WideService::new(home);
-            serve_at_desk::<R, Served<IndexTree>, D, C, L, Attended<D::Conn>, WideService>(
-                rt, own_rt, alloc, served, door, accept, first, benches, &binding,
+            serve_at_desk::<R, O, D, C, L, Attended<D::Conn>, WideService>(
+                rt, own_rt, alloc, object, door, accept, first, benches, &binding,
             )
         }
         Bind::Ws => {
             let binding = WsBinding { replier: Plainly };
-            serve_at_desk::<R, Served<IndexTree>, D, C, L, Talked<D::Conn>, WsBinding<Plainly>>(
-                rt, own_rt, alloc, served, door, accept, first, benches, &binding,
+            serve_at_desk::<R, O, D, C, L, Talked<D::Conn>, WsBinding<Plainly>>(
+                rt, own_rt, alloc, object, door, accept, first, benches, &binding,
             )
         }
+    }
+}
+
+/// Serves them by an entity of this home. Where the words say so, requests that ask for it are
+/// answered later.
+fn serve_entity<R, W, D, C, L>(
+    rt: &R,
+    own_rt: R,
+    alloc: Global,
+    entity: Entity<IndexTree>,
+    home: Home,
+    serving: Serving<'_>,
+    observer: W,
+    door: D,
+    first: &mut Bench<C, L>,
+    benches: Vec<Bench<C, L>>,
+) -> (Status, D)
+where
+    R: Wait + Threads + Drop + Sync,
+    W: RunObserver + Send + Drop,
+    D: Door + Send,
+    D::Conn: ReplyObserver,
+    C: Clock + Send + Drop,
+    L: Link + ItemObserver + Send + Drop,
+    requires benches { 2 ≤ vec_len benches }
+    ensures serves { let conn = conn_tells D.Conn.left D.Conn.written D.Conn.puts
+        D.Conn.Source.faults D.Conn.Sink.faults in
+        let link = link_tells L.exchanges L.faults in
+        ServesOpen (ServesEntity conn C.readings link benches.items home
+        (serving_by serving.entry) entity first.old first.new) (first.new ≡ first.old)
+        serving.entry.accept (door_tells D.opened D.given D.ended D.faults door)
+        (door_tells D.opened D.given D.ended D.faults result.1) result.0 }
+    ensures command { result.0 ≢ Status.Usage }
+{
+    let later = serving.later;
+    if later {
+        let object = ObservedLater::new(LaterEntity::new(alloc, entity), observer);
+        serve_bound(
+            rt, own_rt, alloc, object, home, serving, door, first, benches,
+        )
+    } else {
+        let served = Served::new(alloc, entity);
+        serve_bound(
+            rt, own_rt, alloc, served, home, serving, door, first, benches,
+        )
     }
 }
 
 /// Opens an entity with this home at the clock's first reading, opens the door where the words say,
 /// and serves its connections, each by the protocol that they say, of which as many are accepted at
 /// most as they say, by as many workers as they say, beside a sender of what waits in its outbox.
-pub(crate) fn serve_door<R, D, C, L>(
+/// An observer is told of the requests that it runs later.
+pub(crate) fn serve_door<R, W, D, C, L>(
     rt: &R,
     alloc: Global,
     home: Home,
     serving: Serving<'_>,
+    observer: W,
     mut door: D,
     first: &mut Bench<C, L>,
     benches: Vec<Bench<C, L>>,
 ) -> (Status, D)
 where
     R: Wait + Threads + time::Clock + Clone + Drop + Sync,
+    W: RunObserver + Send + Drop,
     D: Door + Send,
     D::Conn: ReplyObserver,
     C: Clock + Send + Drop,
     L: Link + ItemObserver + Send + Drop,
     requires benches { 2 ≤ vec_len benches }
-    ensures opens { let http = AttendsWidely SeatGrows
-        (conn_tells D.Conn.left D.Conn.written D.Conn.puts D.Conn.Source.faults
-        D.Conn.Sink.faults) C.readings (link_tells L.exchanges L.faults) in
-        let ws = AttendsBy SeatGrows (TalksWs plainly) C.readings
-        (link_tells L.exchanges L.faults) in
-        let sends = SendsFrom SeatGrows C.readings (link_tells L.exchanges L.faults) in
-        OpensServer (ServesEntity http ws sends benches.items home (serving_by serving.entry))
+    ensures opens { let conn = conn_tells D.Conn.left D.Conn.written D.Conn.puts
+        D.Conn.Source.faults D.Conn.Sink.faults in
+        let link = link_tells L.exchanges L.faults in
+        OpensServer (ServesEntity conn C.readings link benches.items home
+        (serving_by serving.entry))
         (serving_by serving.entry) home C.readings first.old first.new
         (door_tells D.opened D.given D.ended D.faults door)
         (door_tells D.opened D.given D.ended D.faults result.1) result.0 }
@@ -198,7 +227,7 @@ where
     let Ok(own) = home.copy(alloc) else {
         return (Status::Memory, door);
     };
-    let Ok(served) = opened(alloc, own, reading, seed(rt)) else {
+    let Ok(entity) = opened(alloc, own, reading, seed(rt)) else {
         return (Status::Memory, door);
     };
     let Ok(own_rt) = rt.clone() else {
@@ -207,7 +236,7 @@ where
     if let Err(_) = door.open(serving.listen.as_bytes()) {
         return (Status::ReadFault, door);
     }
-    serve_bound(
-        rt, own_rt, alloc, served, home, serving, door, first, benches,
+    serve_entity(
+        rt, own_rt, alloc, entity, home, serving, observer, door, first, benches,
     )
 }

@@ -19,14 +19,18 @@ use std::thread::Threads;
 use turn_desk::{Desk, DeskSeat, Object, TurnDesk};
 use workers::{Errand, ServeFault, Service, serve_with};
 
-/// Requests may change what is asked, all but a Retrieve.
+/// Requests may change what is asked, all but a Retrieve that is answered at once: one that is to be
+/// answered later is run by what is asked behind it.
 #[derive(Drop)]
 pub struct OfRequests;
 
 impl Watch<Event> for OfRequests {
     fn may_change(&self, event: &Event) -> bool {
         match event {
-            Event::Ask(request) => !retrieves(request.parts().op),
+            Event::Ask(request) => {
+                let parts = request.parts();
+                !retrieves(parts.op) || matches!(parts.rt, Some(1))
+            }
             Event::Take | Event::Tick => false,
         }
     }

@@ -23,6 +23,8 @@ pub struct Figures {
     failed: AtomicU64,
     /// and of how many hosts the sender knows that one failed lately.
     failing: AtomicU64,
+    /// How many accepted requests wait to be run.
+    waiting: AtomicU64,
     /// How many bytes the journal has, and how often it was synced.
     journal: AtomicU64,
     syncs: AtomicU64,
@@ -55,6 +57,7 @@ impl Figures {
             sent: AtomicU64::new(0),
             failed: AtomicU64::new(0),
             failing: AtomicU64::new(0),
+            waiting: AtomicU64::new(0),
             journal: AtomicU64::new(0),
             syncs: AtomicU64::new(0),
         }
@@ -107,6 +110,11 @@ impl Figures {
         self.failing.store(hosts as u64, Ordering::SeqCst);
     }
 
+    /// So many accepted requests wait to be run.
+    pub fn set_waiting(&self, count: usize) {
+        self.waiting.store(count as u64, Ordering::SeqCst);
+    }
+
     /// The journal has so many bytes.
     pub fn set_journal(&self, len: usize) {
         self.journal.store(len as u64, Ordering::SeqCst);
@@ -136,12 +144,13 @@ impl Figures {
         let (refused, broken) = (value_of(&self.refused), value_of(&self.broken));
         let (sent, failed) = (value_of(&self.sent), value_of(&self.failed));
         let (failing, journal) = (value_of(&self.failing), value_of(&self.journal));
-        let syncs = value_of(&self.syncs);
+        let (waiting, syncs) = (value_of(&self.waiting), value_of(&self.syncs));
         let clients = format!(in alloc; "connections={connections} served={served} busy={busy}")?;
         let replies = format!(in alloc; "2xx={done} 4xx={refused} 5xx={broken}")?;
         let hosts = format!(in alloc; "sent={sent} failed={failed} failing={failing}")?;
-        let clients = clients.as_str();
-        let (replies, hosts) = (replies.as_str(), hosts.as_str());
-        format!(in alloc; "figures {clients} {replies} {hosts} journal={journal} syncs={syncs}")
+        let kept = format!(in alloc; "waiting={waiting} journal={journal} syncs={syncs}")?;
+        let (clients, replies) = (clients.as_str(), replies.as_str());
+        let (hosts, kept) = (hosts.as_str(), kept.as_str());
+        format!(in alloc; "figures {clients} {replies} {hosts} {kept}")
     }
 }

@@ -3,10 +3,11 @@ use crate::clock::millis_now;
 use crate::doorway::Doorway;
 use crate::figures::Figures;
 use crate::nowhere::{line_of_nowhere, subscription_of};
+use crate::replies::line_of_run;
 use libc::net::{POLLNVAL, POLLOUT, poll};
 use libc::types::pollfd;
 use m2m_names::write_stamp;
-use primitive_json::Request;
+use primitive_json::{Reply, Request};
 use std::alloc::{AllocError as OutOfMemory, Global};
 use std::io::{Eprint, ErrorKind};
 use std::sync::Arc;
@@ -304,6 +305,15 @@ impl<R: Clock + Eprint + Copy + Drop> Log<R> {
         }
         if let Ok(line) = line_of_nowhere(self.alloc, request) {
             self.fault(line.as_str());
+        }
+    }
+
+    /// Says that the accepted request of a number was run, where requests are logged.
+    pub fn say_run(&self, number: u64, request: &Request, reply: &Reply) {
+        if self.has_requests()
+            && let Ok(line) = line_of_run(self.alloc, number, request, reply)
+        {
+            self.tell(line.as_str());
         }
     }
 

@@ -4,6 +4,7 @@ use http_frames::{Found, Frame, Start};
 use http_target::BindFault;
 use m2m_names::Op;
 use m2m_value::ValFault;
+use primitive_json::{Reply, Request};
 use std::alloc::{AllocError, Global};
 
 /// Who a message says that it is from; a dash where it doesn't say it once.
@@ -66,4 +67,24 @@ pub(crate) fn why_of(alloc: Global, fault: &BindFault) -> Result<String, AllocEr
             "{fault}"
         ),
     }
+}
+
+/// What a line says of a request that was run later: the resource of the request stands for the
+/// client.
+pub(crate) fn line_of_run(
+    alloc: Global,
+    number: u64,
+    request: &Request,
+    reply: &Reply,
+) -> Result<String, AllocError> {
+    let parts = request.parts();
+    let originator = match &parts.fr {
+        Some(fr) => printable(alloc, fr.entries())?,
+        None => printable(alloc, b"")?,
+    };
+    let target = printable(alloc, parts.to.entries())?;
+    let (originator, target) = (originator.as_str(), target.as_str());
+    let operation = operation_of(parts.op);
+    let code = reply.parts().rsc.number();
+    format!(in alloc; "req{number} {originator} {operation} {target} - {code}")
 }

@@ -9,7 +9,6 @@ use Rattle.turn_desk.specs.Seats.{known_to}
 use Rattle.turn_desk.specs.Shared.{Leaves, newcomer, OwnsAll}
 use Rattle.workers.specs.Shares.{HasComeBack}
 use Rattle.workers.specs.Serving.{GainsByServing}
-use Rattle.entity_model.specs.Entity.{EntityData}
 use Rattle.cse_cli.proofs.ServeLemmas.{whole_again}
 use Rattle.kept_object.specs.State.{KeptData}
 use Rattle.journaled_cli.specs.Run.{LeavesServed, status_of}
@@ -39,10 +38,10 @@ leaves_served {X = X} {E = E} {R = R} {object = object} {lent = lent} {back = ba
 pub ruleset left_served = (whole_again, leaves_served)
 
 -- the status of an entity that is kept
-pub kept_status : {F : Type 0} (left now : KeptData EntityData F) (status result : Status) → left ≡ now → result ≡ status_of now.journal.is_failed status
+pub kept_status : {X F : Type 0} (left now : KeptData X F) (status result : Status) → left ≡ now → result ≡ status_of now.journal.is_failed status
     → (status ≡ Done) ⊎ (status ≡ ReadFault)
     → (result ≡ status_of left.journal.is_failed Done) ⊎ (result ≡ status_of left.journal.is_failed ReadFault)
-kept_status {F = F} left now status result same is which =
+kept_status {X = X} {F = F} left now status result same is which =
     let at : result ≡ status_of left.journal.is_failed status =
-    is ∙ ap (λ (k : KeptData EntityData F). status_of k.journal.is_failed status) (sym same) in
+    is ∙ ap (λ (k : KeptData X F). status_of k.journal.is_failed status) (sym same) in
     ⊎_elim (λ done. inl (at ∙ ap (status_of left.journal.is_failed) done)) (λ fault. inr (at ∙ ap (status_of left.journal.is_failed) fault)) which

@@ -1,4 +1,5 @@
 -- What the commands `http` and `serve` do over a journal.
+use Rattle.std.specs.Bool.{MatchBool}
 use Rattle.std.specs.Prelude.{◌≡◌, ◌≢◌, ◌⊎◌, ℕ, ◌+◌, max, take, Bool, List, Option, Some, None}
 use Rattle.std.specs.Prelude.{if◌then◌else◌}
 use Rattle.std.specs.declared.alloc.AllocError.{AllocError}
@@ -29,6 +30,7 @@ use Rattle.cse_server.specs.declared.connection.Ended.TheVariants.{ReadFault as 
 use Rattle.cse_server.specs.declared.connection.Ended.TheVariants.{WriteFault as EndedWriting}
 use Rattle.cse_server.specs.declared.connection.Ended.TheVariants.{Memory as EndedStarved}
 use Rattle.command_words.specs.Command.{Serving, Task, http, replay, twin, serve}
+use Rattle.command_words.specs.Line.{answers_later, may_keep}
 use Rattle.command_words.specs.Command.{generate}
 use Rattle.cse_cli.specs.Run.{status_behind}
 use Rattle.cse_cli.specs.Serve.{ByBind, ServesObject}
@@ -38,10 +40,15 @@ use Rattle.journal_opening.specs.declared.fault.OpeningFault.{OpeningFault}
 use Rattle.journal_opening.specs.declared.fault.OpeningFault.TheVariants.{NoHeader, OtherFormat}
 use Rattle.journal_opening.specs.declared.fault.OpeningFault.TheVariants.{OtherHome, BadLine}
 use Rattle.journal_opening.specs.declared.fault.OpeningFault.TheVariants.{BadSnapshot, Unsound}
-use Rattle.journal_opening.specs.declared.fault.OpeningFault.TheVariants.{OldDeed, Failed}
+use Rattle.journal_opening.specs.declared.fault.OpeningFault.TheVariants.{OldDeed, Failed, LaterWord}
 use Rattle.journal_opening.specs.declared.fault.OpeningFault.TheVariants.{OutOfMemory}
 use Rattle.journaled_entity.specs.Keeping.{KeepsEntity}
 use Rattle.journaled_entity.specs.Opened.{OpensAt}
+use Rattle.later_replies.specs.Entries.{LaterData}
+use Rattle.later_opening.specs.Opening.{IsRefusedLater}
+use Rattle.journaled_later.specs.Keeping.{KeepsLater}
+use Rattle.journaled_later.specs.Opened.{OpensLaterAt}
+use Rattle.journaled_later.specs.Steps.{KeptLaterStep}
 use Rattle.journaled_server.specs.Sending.{SendsThenTakes, sender}
 use Rattle.journaled_server.specs.Serving.{AnswersGrown}
 
@@ -53,15 +60,22 @@ outside_by left written puts readings link_tells input out bench =
     (link_tells bench.link)
 
 -- a seat of a desk of an entity that is kept in a file
-abbrev pub KeptSeat : Type 0 → Type 0
-KeptSeat F = DeskSeat (KeptData EntityData F) (Turn KeptEvent) (Report KeptOutcome)
+abbrev pub KeptSeat : Type 0 → Type 0 → Type 0
+KeptSeat X F = DeskSeat (KeptData X F) (Turn KeptEvent) (Report KeptOutcome)
 
--- the turns of an entity that is kept in a file
-abbrev pub KeptTurns : {F : Type 0} → Type 0 → (F → List ℕ) → (F → List ℕ → Type 0) → (F → ℕ)
-    → (F → ℕ → List ℕ → Type 0) → ℕ → Turn KeptEvent → KeptData EntityData F → Report KeptOutcome
-    → KeptData EntityData F → Type 0
-KeptTurns tells seen may_leave moment left_since =
-    KeptStep KeptEntityStep KeepsEntity tells seen may_leave moment left_since
+-- the steps of what is kept, and which texts keep it
+abbrev pub StepOf : Type 0 → Type 1
+StepOf X = ℕ → KeptEvent → X → KeptOutcome → X → Type 0
+
+abbrev pub KeepsOf : Type 0 → Type 1
+KeepsOf X = X → List ℕ → Type 0
+
+-- the turns of an object that is kept in a file: of an entity, or of a CSE that answers later
+abbrev pub KeptTurns : {X F : Type 0} → StepOf X → KeepsOf X → Type 0 → (F → List ℕ)
+    → (F → List ℕ → Type 0) → (F → ℕ) → (F → ℕ → List ℕ → Type 0) → ℕ → Turn KeptEvent
+    → KeptData X F → Report KeptOutcome → KeptData X F → Type 0
+KeptTurns step keeps tells seen may_leave moment left_since =
+    KeptStep step keeps tells seen may_leave moment left_since
 
 -- the status, or that writing failed, where the journal has
 abbrev pub status_of : Bool → Status → Status
@@ -95,11 +109,11 @@ module _ {S : Type 0} (grown : S → List (Marked KeptEvent (Answer KeptOutcome)
 -- Input and output were served as one connection of an object that is kept, for the CSE of this
 -- home, and then what it left in the outbox was sent. The turns, for requests and behind each for
 -- those to members at other CSEs, were taken by that object, one after another, and by nobody else.
-pub record ServesStreams {F : Type 0} (turns : ℕ → Turn KeptEvent → KeptData EntityData F
-    → Report KeptOutcome → KeptData EntityData F → Type 0) (home : HomeData)
-    (opened : KeptData EntityData F) (old new : Outside) (status : Status) : Type 0 where
-  pub between : KeptData EntityData F
-  pub after : KeptData EntityData F
+pub record ServesStreams {X F : Type 0} (turns : ℕ → Turn KeptEvent → KeptData X F
+    → Report KeptOutcome → KeptData X F → Type 0) (home : HomeData)
+    (opened : KeptData X F) (old new : Outside) (status : Status) : Type 0 where
+  pub between : KeptData X F
+  pub after : KeptData X F
   pub served : Outside
   pub ended : Ended
   pub sent : Status
@@ -116,19 +130,21 @@ refusal (BadSnapshot number) = BadStream
 refusal Unsound = BadStream
 refusal (BadLine number) = BadStream
 refusal (OldDeed number) = BadStream
+refusal (LaterWord number) = BadStream
 refusal Failed = ReadFault
 refusal OutOfMemory = Memory
 
 -- Nobody was served: for this fault a file with these bytes isn't opened by a home. They are
 -- refused by what stands in them, unless the file failed or memory ran out. The file is given back,
 -- and unless it failed it stays as it was, at each moment.
-pub record ServesNone {F : Type 0} (tells : Type 0) (seen : F → List ℕ)
-    (may_leave : F → List ℕ → Type 0) (moment : F → ℕ) (left_since : F → ℕ → List ℕ → Type 0)
+pub record ServesNone {F : Type 0} (refused_by : HomeData → List ℕ → OpeningFault → Type 0)
+    (tells : Type 0) (seen : F → List ℕ) (may_leave : F → List ℕ → Type 0) (moment : F → ℕ)
+    (left_since : F → ℕ → List ℕ → Type 0)
     (home : HomeData) (file : F) (old new : Outside) (back : Option F) (status : Status)
     : Type 0 where
   pub fault : OpeningFault
   pub left : F
-  pub refused : tells → IsRefused home (seen file) fault
+  pub refused : tells → refused_by home (seen file) fault
   pub back_is : back ≡ Some left
   pub stays : tells → fault ≢ Failed → StaysAsItWas seen may_leave moment left_since file left
   pub status_is : status ≡ refusal fault
@@ -147,27 +163,28 @@ pub record StaysShut {B : Type 0} (old new : B) (status : Status) : Type 0 where
   pub status_is : (status ≡ Memory) ⊎ (status ≡ ReadFault)
   pub same : new ≡ old
 
-module _ {F : Type 0} (tells : Type 0) (seen : F → List ℕ) (may_leave : F → List ℕ → Type 0)
+module _ {X F : Type 0} (step : StepOf X) (keeps : KeepsOf X) (tells : Type 0)
+    (seen : F → List ℕ) (may_leave : F → List ℕ → Type 0)
     (moment : F → ℕ) (left_since : F → ℕ → List ℕ → Type 0) where
   -- Connections were attended to at a desk of an object that is kept, as at one of any object; and
   -- the status says that all is well or that the door failed, or that writing failed where the
   -- journal has.
-  abbrev pub ServesKept : {C B A : Type 0} → (KeptSeat F → C → B → KeptSeat F → A → B → Type 0)
-      → (KeptSeat F → B → KeptSeat F → B → Type 0)
-      → List B → B → B → KeptData EntityData F → Status → Type 0
+  abbrev pub ServesKept : {C B A : Type 0} → (KeptSeat X F → C → B → KeptSeat X F → A → B → Type 0)
+      → (KeptSeat X F → B → KeptSeat X F → B → Type 0)
+      → List B → B → B → KeptData X F → Status → Type 0
   ServesKept attends does benches old new opened status =
-      (served : ServesObject (KeptTurns tells seen may_leave moment left_since) attends does benches
-      opened old new)
+      (served : ServesObject (KeptTurns step keeps tells seen may_leave moment left_since) attends
+      does benches opened old new)
       × ((status ≡ status_of served.left.journal.is_failed Done)
       ⊎ (status ≡ status_of served.left.journal.is_failed ReadFault))
 
   -- That, each connection being attended to as HTTP at this home or each as a WebSocket, as the
   -- words say, by as many workers as they say, where there are benches for so many, beside an errand.
   abbrev pub ServesByWords : {C B A W : Type 0}
-      → (HomeData → KeptSeat F → C → B → KeptSeat F → A → B → Type 0)
-      → (KeptSeat F → C → B → KeptSeat F → W → B → Type 0)
-      → (KeptSeat F → B → KeptSeat F → B → Type 0)
-      → List B → B → B → HomeData → Serving → KeptData EntityData F → Status → Type 0
+      → (HomeData → KeptSeat X F → C → B → KeptSeat X F → A → B → Type 0)
+      → (KeptSeat X F → C → B → KeptSeat X F → W → B → Type 0)
+      → (KeptSeat X F → B → KeptSeat X F → B → Type 0)
+      → List B → B → B → HomeData → Serving → KeptData X F → Status → Type 0
   ServesByWords by_http by_ws does benches old new home serving opened status =
       ByBind serving.bind
       (ServesKept (by_http home) does (take (max 1 serving.workers + 1) benches) old new opened
@@ -176,8 +193,8 @@ module _ {F : Type 0} (tells : Type 0) (seen : F → List ℕ) (may_leave : F �
 
   -- The command `serve` with an entity that was opened: connections were `served` by it, or nobody
   -- was. Nothing was read of the input or written to the output.
-  pub record ServesDoor (served : KeptData EntityData F → Status → Type 0)
-      (opened : KeptData EntityData F) (old new : Outside) (status : Status) : Type 0 where
+  pub record ServesDoor (served : KeptData X F → Status → Type 0)
+      (opened : KeptData X F) (old new : Outside) (status : Status) : Type 0 where
     pub left : new.left ≡ old.left
     pub out : new.out ≡ old.out
     pub serves : served opened status ⊎ StaysShut old new status
@@ -185,22 +202,45 @@ module _ {F : Type 0} (tells : Type 0) (seen : F → List ℕ) (may_leave : F �
   -- What is done for a task with an entity that was opened at the journal of this home. With `http`
   -- input and output were served as one connection of it, and with `serve` connections of the door.
   -- Nothing else is done so.
-  abbrev pub DoesTask : (HomeData → Serving → KeptData EntityData F → Status → Type 0) → Task
-      → HomeData → KeptData EntityData F → Outside → Outside → Status → Type 0
-  DoesTask served http home opened old new status =
-      ServesStreams (KeptTurns tells seen may_leave moment left_since) home opened old new status
-  DoesTask served replay home opened old new status = (status ≡ Usage) × (new ≡ old)
-  DoesTask served twin home opened old new status = (status ≡ Usage) × (new ≡ old)
-  DoesTask served (serve serving) home opened old new status =
+  abbrev pub DoesKept : (HomeData → Serving → KeptData X F → Status → Type 0) → Task
+      → HomeData → KeptData X F → Outside → Outside → Status → Type 0
+  DoesKept served (http later) home opened old new status =
+      ServesStreams (KeptTurns step keeps tells seen may_leave moment left_since) home opened old
+      new status
+  DoesKept served replay home opened old new status = (status ≡ Usage) × (new ≡ old)
+  DoesKept served twin home opened old new status = (status ≡ Usage) × (new ≡ old)
+  DoesKept served (serve serving) home opened old new status =
       ServesDoor (served home serving) opened old new status
-  DoesTask served (generate requests) home opened old new status =
+  DoesKept served (generate requests) home opened old new status =
       (status ≡ Usage) × (new ≡ old)
 
-  -- A task over a journal: the entity of this home was opened at the file, and this was done with
-  -- it; or nobody was served, and the file is given back.
-  abbrev pub RunsTask : (HomeData → Serving → KeptData EntityData F → Status → Type 0) → Task
+  -- That, where the task is one that may keep its entity.
+  abbrev pub DoesTask : (HomeData → Serving → KeptData X F → Status → Type 0) → Task
+      → HomeData → KeptData X F → Outside → Outside → Status → Type 0
+  DoesTask served task home opened old new status = MatchBool (may_keep task)
+      (DoesKept served task home opened old new status) ((status ≡ Usage) × (new ≡ old))
+
+  -- A task over a journal: what is kept was opened at the file, and this was done with it; or
+  -- nobody was served, and the file is given back.
+  abbrev pub RunsBy : (HomeData → F → KeptData X F → Type 0)
+      → (HomeData → List ℕ → OpeningFault → Type 0)
+      → (HomeData → Serving → KeptData X F → Status → Type 0) → Task
       → HomeData → F → Outside → Outside → Option F → Status → Type 0
-  RunsTask served task home file old new back status =
-      ((opened : KeptData EntityData F) × OpensAt tells seen may_leave home file opened
+  RunsBy opens refused served task home file old new back status =
+      ((opened : KeptData X F) × opens home file opened
       × DoesTask served task home opened old new status × (back ≡ None))
-      ⊎ ServesNone tells seen may_leave moment left_since home file old new back status
+      ⊎ ServesNone refused tells seen may_leave moment left_since home file old new back status
+
+module _ {F : Type 0} (tells : Type 0) (seen : F → List ℕ) (may_leave : F → List ℕ → Type 0)
+    (moment : F → ℕ) (left_since : F → ℕ → List ℕ → Type 0) where
+  -- A task over a journal: of a CSE that answers later where the words say so, and else of an
+  -- entity.
+  abbrev pub RunsTask : (HomeData → Serving → KeptData EntityData F → Status → Type 0)
+      → (HomeData → Serving → KeptData LaterData F → Status → Type 0) → Task
+      → HomeData → F → Outside → Outside → Option F → Status → Type 0
+  RunsTask served served_later task home file old new back status = MatchBool (answers_later task)
+      (RunsBy KeptLaterStep KeepsLater tells seen may_leave moment left_since
+      (OpensLaterAt tells seen may_leave) IsRefusedLater served_later task home file old new back
+      status)
+      (RunsBy KeptEntityStep KeepsEntity tells seen may_leave moment left_since
+      (OpensAt tells seen may_leave) IsRefused served task home file old new back status)

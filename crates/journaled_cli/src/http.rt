@@ -6,11 +6,11 @@ ghost use Rattle.turn_desk.specs.Growth.{IsOwnRun};
 ghost use Rattle.journaled_cli.specs.Run as spec;
 ghost use Rattle.journaled_cli.specs.Run.{KeptTurns, SendsBehind, ServesStreams, EndsBehind};
 
-use crate::kept::KeptEntity;
 use cse_server::{Bench, Ended, Wire};
+use journal_events::{KeptEvent, KeptOutcome};
 use journaled_server::{send_kept_alone, serve_kept_alone};
 use kept_file::NamedFile;
-use kept_object::KeptObject;
+use kept_object::{KeptObject, Recorder};
 use m2m_io::{Clock, Link, Sink, Source, Status};
 use remote_members::Wide;
 use service_observer::ItemObserver;
@@ -20,15 +20,17 @@ use turn_desk::OwnSeat;
 
 /// Sends the items of the outbox of the entity at a seat. The status is this one, unless memory
 /// runs out.
-fn send_behind<F: NamedFile, C: Clock, L: Link + ItemObserver>(
+fn send_behind<K, F: NamedFile, C: Clock, L: Link + ItemObserver>(
     alloc: Global,
-    seat: &mut OwnSeat<KeptEntity<F>>,
+    seat: &mut OwnSeat<KeptObject<K, F>>,
     bench: &mut Bench<C, L>,
     whole: Status,
 ) -> Status
+where
+    K: Recorder<Event = KeptEvent, Outcome = KeptOutcome>,
     ensures { (left : Option (List ℕ)) → (out : SinkTold)
-        → SendsBehind (KeptGrown (IsOwnRun (KeptTurns F.tells F.seen F.may_leave F.moment
-        F.left_since))) seat.old seat.new (outside left out (C.readings bench.old.clock)
+        → SendsBehind (KeptGrown (IsOwnRun (KeptTurns K.step K.keeps F.tells F.seen F.may_leave
+        F.moment F.left_since))) seat.old seat.new (outside left out (C.readings bench.old.clock)
         (link_told (L.exchanges bench.old.link) (L.faults bench.old.link)))
         (outside left out (C.readings bench.new.clock)
         (link_told (L.exchanges bench.new.link) (L.faults bench.new.link))) whole result }
@@ -42,15 +44,17 @@ fn send_behind<F: NamedFile, C: Clock, L: Link + ItemObserver>(
 
 /// What is done behind a connection that ended so: where it was closed, or what was left of it was
 /// no message, the items of the outbox are sent.
-fn finish<F: NamedFile, C: Clock, L: Link + ItemObserver>(
+fn finish<K, F: NamedFile, C: Clock, L: Link + ItemObserver>(
     alloc: Global,
-    seat: &mut OwnSeat<KeptEntity<F>>,
+    seat: &mut OwnSeat<KeptObject<K, F>>,
     bench: &mut Bench<C, L>,
     ended: Ended,
 ) -> Status
+where
+    K: Recorder<Event = KeptEvent, Outcome = KeptOutcome>,
     ensures { (left : Option (List ℕ)) → (out : SinkTold)
-        → EndsBehind (KeptGrown (IsOwnRun (KeptTurns F.tells F.seen F.may_leave F.moment
-        F.left_since))) ended seat.old seat.new (outside left out (C.readings bench.old.clock)
+        → EndsBehind (KeptGrown (IsOwnRun (KeptTurns K.step K.keeps F.tells F.seen F.may_leave
+        F.moment F.left_since))) ended seat.old seat.new (outside left out (C.readings bench.old.clock)
         (link_told (L.exchanges bench.old.link) (L.faults bench.old.link)))
         (outside left out (C.readings bench.new.clock)
         (link_told (L.exchanges bench.new.link) (L.faults bench.new.link))) result }
@@ -78,9 +82,10 @@ pub(crate) fn status_of<O: Drop, F: NamedFile + Drop>(
     }
 }
 
-/// Serves input and output as one connection of an entity that is kept, for the CSE of this home,
+/// Serves input and output as one connection of what is kept, for the CSE of this home,
 /// also for members of groups at other CSEs, and sends the items that this leaves in the outbox.
 pub(crate) fn serve_streams<
+    K: Recorder<Event = KeptEvent, Outcome = KeptOutcome> + Drop,
     F: NamedFile + Drop,
     S: Source,
     O: Sink,
@@ -89,7 +94,7 @@ pub(crate) fn serve_streams<
 >(
     alloc: Global,
     home: &Home,
-    object: KeptEntity<F>,
+    object: KeptObject<K, F>,
     input: &mut S,
     out: &mut O,
     bench: &mut Bench<C, L>,
@@ -100,7 +105,7 @@ pub(crate) fn serve_streams<
         let new = outside (S.left input.new)
         (sink_told (O.written out.new) (O.puts out.new)) (C.readings bench.new.clock)
         (link_told (L.exchanges bench.new.link) (L.faults bench.new.link)) in
-        ServesStreams (KeptTurns F.tells F.seen F.may_leave F.moment F.left_since)
+        ServesStreams (KeptTurns K.step K.keeps F.tells F.seen F.may_leave F.moment F.left_since)
         home.now object old new result }
 {
     let mut seat = OwnSeat::new(object);

@@ -17,7 +17,7 @@
 
 mod command;
 mod http;
-mod kept;
+mod observed;
 mod serve;
 mod snapshot;
 mod streams;

@@ -10,7 +10,6 @@ ghost use Rattle.journaled_server.specs.Serving.{TurnsGrow};
 ghost use Rattle.ws_binding.specs.Binding.{TalksWs};
 
 use crate::http::status_of;
-use crate::kept::KeptEntity;
 use command_words::{Bind, Serving};
 use cse_cli::benches_for;
 use cse_server::{Attended, Bench, ServeFault};
@@ -19,6 +18,7 @@ use journal_events::{KeptEvent, KeptOutcome};
 use journaled_server::{LossDoor, LossSignal, serve_journaled};
 use kept_desk::{Report, Turn};
 use kept_file::NamedFile;
+use kept_object::{KeptObject, Recorder};
 use m2m_io::{Clock, Door, Link, Status};
 use remote_members::WideService;
 use service_observer::{ItemObserver, ReplyObserver};
@@ -84,11 +84,11 @@ where
 
 /// Serves the connections of an open door by an entity that is kept and by a binding, of which so
 /// many are accepted at most, and sends what waits in its outbox.
-fn serve_kept<R, F, D, C, L, A, P>(
+fn serve_kept<R, K, F, D, C, L, A, P>(
     rt: &R,
     own_rt: R,
     alloc: Global,
-    object: KeptEntity<F>,
+    object: KeptObject<K, F>,
     door: D,
     accept: Option<u64>,
     first: &mut Bench<C, L>,
@@ -97,6 +97,7 @@ fn serve_kept<R, F, D, C, L, A, P>(
 ) -> Status
 where
     R: Wait + Threads + Drop + Sync,
+    K: Recorder<Event = KeptEvent, Outcome = KeptOutcome> + Send + Drop,
     F: NamedFile + Send + Drop,
     D: Door + Send + Drop,
     C: Clock + Send + Drop,
@@ -107,10 +108,10 @@ where
     ensures { let attends = AttendsKeptBy TurnsGrow (P.talks binding.now) C.readings
         (link_tells L.exchanges L.faults) in
         let sends = SendsKept TurnsGrow C.readings (link_tells L.exchanges L.faults) in
-        ServesKept F.tells F.seen F.may_leave F.moment F.left_since attends sends benches.items
-        first.old first.new object result ⊎ StaysShut first.old first.new result }
+        ServesKept K.step K.keeps F.tells F.seen F.may_leave F.moment F.left_since attends sends
+        benches.items first.old first.new object result ⊎ StaysShut first.old first.new result }
 {
-    match serve_at_desk::<R, KeptEntity<F>, D, C, L, A, P>(
+    match serve_at_desk::<R, KeptObject<K, F>, D, C, L, A, P>(
         rt, own_rt, alloc, object, door, accept, first, benches, binding,
     ) {
         Some((left, status)) => status_of(left, status),
@@ -121,12 +122,12 @@ where
 /// Serves the connections of an open door by an entity that is kept, for the CSE of this home, each
 /// by the protocol that the words say, by as many workers as they say, beside a sender of what waits
 /// in its outbox. Over HTTP members of groups at other CSEs are asked as well.
-fn serve_bound<R, F, D, C, L>(
+fn serve_bound<R, K, F, D, C, L>(
     rt: &R,
     own_rt: R,
     alloc: Global,
     home: Home,
-    object: KeptEntity<F>,
+    object: KeptObject<K, F>,
     serving: Serving<'_>,
     door: D,
     first: &mut Bench<C, L>,
@@ -134,6 +135,7 @@ fn serve_bound<R, F, D, C, L>(
 ) -> Status
 where
     R: Wait + Threads + Drop + Sync,
+    K: Recorder<Event = KeptEvent, Outcome = KeptOutcome> + Send + Drop,
     F: NamedFile + Send + Drop,
     D: Door + Send + Drop,
     D::Conn: ReplyObserver,
@@ -146,8 +148,8 @@ where
         let ws = AttendsKeptBy TurnsGrow (TalksWs plainly) C.readings
         (link_tells L.exchanges L.faults) in
         let sends = SendsKept TurnsGrow C.readings (link_tells L.exchanges L.faults) in
-        ServesByWords F.tells F.seen F.may_leave F.moment F.left_since http ws sends benches.items
-        first.old first.new home (serving_by serving.entry) object result
+        ServesByWords K.step K.keeps F.tells F.seen F.may_leave F.moment F.left_since http ws sends
+        benches.items first.old first.new home (serving_by serving.entry) object result
         ⊎ StaysShut first.old first.new result }
 {
     let accept = serving.accept;
@@ -155,13 +157,13 @@ where
     match serving.bind {
         Bind::Http => {
             let binding = WideService::new(home);
-            serve_kept::<R, F, D, C, L, Attended<D::Conn>, WideService>(
+            serve_kept::<R, K, F, D, C, L, Attended<D::Conn>, WideService>(
                 rt, own_rt, alloc, object, door, accept, first, benches, &binding,
             )
         }
         Bind::Ws => {
             let binding = WsBinding { replier: Plainly };
-            serve_kept::<R, F, D, C, L, Talked<D::Conn>, WsBinding<Plainly>>(
+            serve_kept::<R, K, F, D, C, L, Talked<D::Conn>, WsBinding<Plainly>>(
                 rt, own_rt, alloc, object, door, accept, first, benches, &binding,
             )
         }
@@ -171,11 +173,11 @@ where
 /// Opens the door where the words say, and serves its connections by an entity that is kept, for the
 /// CSE of this home, each by the protocol that they say, by as many workers as they say, beside a
 /// sender of what waits in its outbox.
-pub(crate) fn serve_door<R, F, D, C, L>(
+pub(crate) fn serve_door<R, K, F, D, C, L>(
     rt: &R,
     alloc: Global,
     home: Home,
-    object: KeptEntity<F>,
+    object: KeptObject<K, F>,
     serving: Serving<'_>,
     mut door: D,
     first: &mut Bench<C, L>,
@@ -183,6 +185,7 @@ pub(crate) fn serve_door<R, F, D, C, L>(
 ) -> Status
 where
     R: Wait + Threads + Clone + Drop + Sync,
+    K: Recorder<Event = KeptEvent, Outcome = KeptOutcome> + Send + Drop,
     F: NamedFile + Send + Drop,
     D: Door + Send + Drop,
     D::Conn: ReplyObserver,
@@ -195,8 +198,8 @@ where
         let ws = AttendsKeptBy TurnsGrow (TalksWs plainly) C.readings
         (link_tells L.exchanges L.faults) in
         let sends = SendsKept TurnsGrow C.readings (link_tells L.exchanges L.faults) in
-        ServesByWords F.tells F.seen F.may_leave F.moment F.left_since http ws sends benches.items
-        first.old first.new home (serving_by serving.entry) object result
+        ServesByWords K.step K.keeps F.tells F.seen F.may_leave F.moment F.left_since http ws sends
+        benches.items first.old first.new home (serving_by serving.entry) object result
         ⊎ StaysShut first.old first.new result }
 {
     let Ok(own_rt) = rt.clone() else {

@@ -13,8 +13,8 @@ returns-in_default-clause-runs g c = record {
   run = inr (record { status_is = refl; same = refl });
 }
 
-pub returns-clause-runs : goal.returns-clause-runs
-returns-clause-runs g c = record {
+pub returns-in_default-opened-clause-runs : goal.returns-in_default-opened-clause-runs
+returns-in_default-opened-clause-runs g c = record {
   reading = c.now-reading.result;
   given = g.C.Clock.readings c.now-reading.new.self;
   clock = c.now-reading.ensures;
@@ -22,10 +22,11 @@ returns-clause-runs g c = record {
 }
 
 -- it opened
-pub returns-in-Ok-opened-clause-runs : goal.returns-in-Ok-opened-clause-runs
-returns-in-Ok-opened-clause-runs g c = record {
+pub returns-clause-runs : goal.returns-clause-runs
+returns-clause-runs g c = record {
   reading = c.now-reading.result;
   given = g.C.Clock.readings c.now-reading.new.self;
   clock = c.now-reading.ensures;
-  run = inl (streams_served (c.in-Ok-opened.ensures ∙ ap (λ (h : HomeData). opening h c.now-reading.result) c.in-Ok.ensures) c.serve_opened.ensures.runs);
+  run = inl (streams_served c.args.later c.args.home _ _ _
+      (c.in-Ok-opened.ensures ∙ ap (λ (h : HomeData). opening h c.now-reading.result) c.in-Ok.ensures) c.serve_entity.ensures.serves);
 }

@@ -1,6 +1,5 @@
 use Rattle.std.proofs.Common.{sym}
 use denote.Param.Send.{sendable}
-use Rattle.cse_cli.proofs.EntitiesSent.{served_tree_send}
 use Rattle.remote_members.proofs.Shared.{service_sync}
 use Rattle.cse_cli.proofs.serve.serve_bound.Goals as goal
 
@@ -12,13 +11,6 @@ returns-in-Http-clause-serves g c = rw (c.in-Http.is, sym c.benches_for-benches.
 pub returns-in-Ws-clause-serves : goal.returns-in-Ws-clause-serves
 returns-in-Ws-clause-serves g c = rw (c.in-Ws.is, sym c.benches_for-benches.ensures.front) c.serve_at_desk-in-Ws.ensures.serves
 
--- an entity goes from thread to thread
-pub serve_at_desk-requires-send-O : goal.serve_at_desk-requires-send-O
-serve_at_desk-requires-send-O g c κs within = search (sendable, served_tree_send)
-
 -- threads share the service, which holds a home
 pub serve_at_desk-requires-sync-P : goal.serve_at_desk-requires-sync-P
 serve_at_desk-requires-sync-P g c κs within = search (sendable, service_sync)
-
-pub serve_at_desk-requires-in-Ws-send-O : goal.serve_at_desk-requires-in-Ws-send-O
-serve_at_desk-requires-in-Ws-send-O g c κs within = search (sendable, served_tree_send)

@@ -33,4 +33,4 @@ returns-clause-opens g c =
     (c.in-Ok-opened.ensures ∙ ap (λ (h : HomeData). opening h c.now-reading.result) c.in-Ok.ensures) c.now-reading.ensures
     (subst (λ (at : List ℕ). Tells (λ _. Some at) (g.D.Door.opened c.args.door) (g.D.Door.opened c.open.new.self)) c.as_bytes.ensures.value opened.ok)
     opened.given opened.ended opened.faults.steady
-    c.serve_bound.ensures.serves
+    c.serve_entity.ensures.serves

@@ -1,17 +1,21 @@
-use Rattle.std.proofs.Common.{refl, inl, inr, ⊎_elim}
+use Rattle.std.proofs.Common.{refl, sym, inl, inr, ⊎_elim, ◌∙◌}
 use Rattle.cse_server.specs.Outside.{link_told, outside, sink_told}
 use Rattle.cse_server.specs.declared.bench.Bench.{Bench}
 use Rattle.journaled_cli.proofs.RunLemmas.{shut_outside}
 use Rattle.journaled_cli.proofs.command.do_task.Goals as goal
 
+-- the task keeps no entity
+pub returns-then-not-may_keep : goal.returns-then-not-may_keep
+returns-then-not-may_keep g c = rw (sym c.may_keep.ensures ∙ c.if-not-may_keep.true) (refl, refl)
+
 -- the streams were served as one connection
 pub returns-in-Http : goal.returns-in-Http
-returns-in-Http g c = rw c.in-Http.is c.serve_streams.ensures
+returns-in-Http g c = rw (sym c.may_keep.ensures ∙ c.if-not-may_keep.false, c.in-Http.is) c.serve_streams.ensures
 
 -- the connections of the door were served
 pub returns-in-Serve : goal.returns-in-Serve
 returns-in-Serve g c =
-    rw c.in-Serve.is (record {
+    rw (sym c.may_keep.ensures ∙ c.if-not-may_keep.false, c.in-Serve.is) (record {
       left = refl;
       out = refl;
       serves = ⊎_elim (λ served. inl served)
@@ -22,10 +26,10 @@ returns-in-Serve g c =
 
 -- nothing else is done so
 pub returns-in-Replay : goal.returns-in-Replay
-returns-in-Replay g c = rw c.in-Replay.is (refl, refl)
+returns-in-Replay g c = rw (sym c.may_keep.ensures ∙ c.if-not-may_keep.false, c.in-Replay.is) (refl, refl)
 
 pub returns-in-Twin : goal.returns-in-Twin
-returns-in-Twin g c = rw c.in-Twin.is (refl, refl)
+returns-in-Twin g c = rw (sym c.may_keep.ensures ∙ c.if-not-may_keep.false, c.in-Twin.is) (refl, refl)
 
 pub returns-in-Generate : goal.returns-in-Generate
-returns-in-Generate g c = rw c.in-Generate.is (refl, refl)
+returns-in-Generate g c = rw (sym c.may_keep.ensures ∙ c.if-not-may_keep.false, c.in-Generate.is) (refl, refl)

@@ -1,22 +1,12 @@
-use Rattle.std.proofs.Common.{refl, inl, inr}
+use Rattle.std.proofs.Common.{sym, ◌∙◌}
 use Rattle.journaled_cli.proofs.command.run_journaled.Goals as goal
 
--- the entity was opened
-pub returns-in-Ok : goal.returns-in-Ok
-returns-in-Ok g c = record {
-  runs = rw c.told.ensures.same (inl (c.in-Ok.object, c.in-Ok.ensures.opens, c.do_task-status.ensures, refl));
-}
+-- a CSE that answers later
+pub returns-then-answers_later : goal.returns-then-answers_later
+returns-then-answers_later g c = record { runs = rw (c.told.ensures.same, sym c.answers_later.ensures ∙ c.if-answers_later.true) c.run_later-ended.ensures.runs }
 
--- the file was refused
-pub returns-in-Err : goal.returns-in-Err
-returns-in-Err g c = record {
-  runs = rw c.told-in-Err.ensures.same (inr (record {
-    fault = c.in-Err.unopened.fault;
-    left = c.in-Err.unopened.file;
-    refused = c.in-Err.ensures.refused;
-    back_is = refl;
-    stays = c.in-Err.ensures.stays;
-    status_is = c.refuse-status.ensures;
-    same = refl;
-  }));
+-- an entity
+pub returns-else-answers_later : goal.returns-else-answers_later
+returns-else-answers_later g c = record {
+  runs = rw (c.told-else-answers_later.ensures.same, sym c.answers_later.ensures ∙ c.if-answers_later.false) c.run_plain-ended.ensures.runs;
 }

@@ -10,7 +10,7 @@ use Rattle.journaled_cli.proofs.http.serve_streams.Goals as goal
 pub returns : goal.returns
 returns g c =
     let K = g.F.KeptFile in
-    let turns = KeptTurns K.tells K.seen K.may_leave K.moment K.left_since in
+    let turns = KeptTurns g.K.Recorder.step g.K.Recorder.keeps K.tells K.seen K.may_leave K.moment K.left_since in
     let served = c.serve_kept_alone-ended in
     let wire = c.new-wire in
     let read_name = first_name _ _ _ _ served.ensures.holds in

@@ -2,9 +2,6 @@ use Rattle.std.proofs.Common.{refl, inl, inr}
 use denote.Exit.{yes}
 use denote.Param.{param}
 use denote.Param.Send.{arg_send, param_send}
-use Rattle.resource_tree.specs.contracts.index_tree.IndexTree as index_tree
-use Rattle.resource_tree.specs.contracts.index_tree.IndexTreeTree.TheImpl as index_tree_impl
-use Rattle.journaled_entity.specs.contracts.recording.Journaled as journaled
 use Rattle.kept_object.specs.contracts.object.KeptObject as kept
 use Rattle.journaled_cli.proofs.KeptSent.{kept_send}
 use Rattle.journaled_cli.proofs.ServedLemmas.{kept_status}
@@ -23,5 +20,5 @@ returns-in-None g c = inr (record { status_is = inl refl; same = c.serve_at_desk
 -- the object goes from thread to thread, as an argument that stands for a parameter
 pub serve_at_desk-requires-send-O : goal.serve_at_desk-requires-send-O
 serve_at_desk-requires-send-O g c κs within =
-    param_send _ _ (arg_send _ yes (kept.the_row (journaled.the_row index_tree.the_row index_tree_impl.ghosts) (param 1 g.row.F) g.F.KeptFile)
-    (kept_send (param 1 g.row.F) g.F.KeptFile c.type_bounds.send-F))
+    param_send _ _ (arg_send _ yes (kept.the_row (param 1 g.row.K) (param 2 g.row.F) g.F.KeptFile)
+    (kept_send (param 1 g.row.K) (param 2 g.row.F) g.F.KeptFile c.type_bounds.send-K c.type_bounds.send-F))
