@@ -5,7 +5,9 @@
    to the descriptor REFUSE_STREAM, until REFUSE_UNTIL are, or somebody writes the child's number into the last word of
    the file REFUSE_ROOM/tally. Each child works in a folder of its own below REFUSE_ROOM, named by its number, with a copy
    of REFUSE_FILE as `journal`, REFUSE_INPUT as its input, and `out` and `err`. Its time of day stands still at
-   REFUSE_CLOCK seconds. It listens at a port of its own: the one that is named, and its number more. A line of
+   REFUSE_CLOCK seconds; with REFUSE_TICK it goes on by so many with each write to that descriptor, and as somebody
+   writes the number. With REFUSE_LINES a read of its input gives one line, so that what is answered to it is written
+   before the next one. It listens at a port of its own: the one that is named, and its number more. A line of
    REFUSE_ROOM/results says of each: its number, what waitpid gives, and how many calls were counted and how many
    refused. */
 #define _GNU_SOURCE
@@ -17,6 +19,7 @@
 #include <stdint.h>
 #include <stdio.h>
 #include <stdlib.h>
+#include <string.h>
 #include <sys/mman.h>
 #include <sys/socket.h>
 #include <sys/stat.h>
@@ -29,9 +32,9 @@
 extern void *__libc_malloc(size_t), *__libc_calloc(size_t, size_t), *__libc_realloc(void *, size_t);
 extern void *__libc_memalign(size_t, size_t);
 
-static struct tally { _Atomic uint64_t counted, refused, written, lifted; } *tally;
-static uint64_t at, more, after, until, seconds;
-static int stream;
+static struct tally { _Atomic uint64_t counted, refused, written, lifted, puts; } *tally;
+static uint64_t at, more, after, until, seconds, tick;
+static int stream, lines;
 
 static uint64_t number(const char *name, uint64_t without) {
   const char *text = getenv(name);
@@ -67,7 +70,8 @@ __attribute__((constructor)) static void begin(void) {
   if (!getenv("REFUSE_ROOM")) return;
   uint64_t last = number("REFUSE_LAST", UINT64_MAX);
   after = number("REFUSE_AFTER", 0), until = number("REFUSE_UNTIL", UINT64_MAX), seconds = number("REFUSE_CLOCK", 0);
-  more = number("REFUSE_MORE", 0), stream = number("REFUSE_STREAM", 1);
+  more = number("REFUSE_MORE", 0), stream = number("REFUSE_STREAM", 1), tick = number("REFUSE_TICK", 0);
+  lines = number("REFUSE_LINES", 0);
   if (chdir(getenv("REFUSE_ROOM"))) _exit(70);
   int file = open("tally", O_RDWR | O_CREAT, 0600);
   if (file < 0 || ftruncate(file, sizeof *tally)) _exit(70);
@@ -76,7 +80,7 @@ __attribute__((constructor)) static void begin(void) {
   if (tally == MAP_FAILED) _exit(70);
   int results = open("results", O_WRONLY | O_CREAT | O_APPEND, 0600);
   for (uint64_t next = number("REFUSE_FIRST", 1); next <= last; next += number("REFUSE_STEP", 1)) {
-    tally->counted = tally->refused = tally->written = tally->lifted = 0;
+    tally->counted = tally->refused = tally->written = tally->lifted = tally->puts = 0;
     pid_t child = fork();
     if (child == 0) {
       close(results);
@@ -93,7 +97,7 @@ __attribute__((constructor)) static void begin(void) {
 
 static int refused(void) {
   if (!at && !tally) return 0;
-  if (tally->written < after || tally->written >= until || (at && tally->lifted == at)) return 0;
+  if (tally->written < after || tally->written >= until || tally->lifted == at + 1) return 0;
   uint64_t number = atomic_fetch_add(&tally->counted, 1) + 1;
   if (at == 0 || number < at || number - at > more) return 0;
   atomic_fetch_add(&tally->refused, 1);
@@ -113,8 +117,19 @@ int posix_memalign(void **into, size_t to, size_t size) {
   return 0;
 }
 
+ssize_t read(int file, void *into, size_t size) {
+  ssize_t came = syscall(SYS_read, file, into, size);
+  char *end = lines && file == 0 && came > 0 ? memchr(into, '\n', came) : NULL;
+  if (!end) return came;
+  ssize_t line = end + 1 - (char *)into;
+  return syscall(SYS_lseek, file, line - came, SEEK_CUR) < 0 ? -1 : line;
+}
+
 static ssize_t told(int file, ssize_t written) {
-  if (tally && file == stream && written > 0) atomic_fetch_add(&tally->written, written);
+  if (tally && file == stream && written > 0) {
+    atomic_fetch_add(&tally->written, written);
+    atomic_fetch_add(&tally->puts, 1);
+  }
   return written;
 }
 
@@ -142,7 +157,7 @@ int connect(int file, const struct sockaddr *to, socklen_t size) {
 
 int clock_gettime(clockid_t which, struct timespec *into) {
   if (seconds && which == CLOCK_REALTIME) {
-    into->tv_sec = seconds, into->tv_nsec = 0;
+    into->tv_sec = seconds + tick * (tally->puts + (tally->lifted != 0)), into->tv_nsec = 0;
     return 0;
   }
   return syscall(SYS_clock_gettime, which, into);
