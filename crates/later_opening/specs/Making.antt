@@ -51,20 +51,24 @@ fits (Given n) last requests = nat_le requests.given n
 
 -- ---- what an act does
 
+-- the entity inside behind an act: a deed is done, and a word leaves it as it is
 abbrev pub inner_after : Act → EntityData → EntityData
 inner_after (Deed dated) e = made_by dated e
 inner_after (Word word) e = e
 
+-- the accepted requests behind an act: a deed leaves them as they are
 abbrev pub requests_after : Act → LaterRequestsData → LaterRequestsData
 requests_after (Deed dated) requests = requests
 requests_after (Word word) requests = by_word word requests
 
+-- an act fits where the entity inside has this moment: each deed does
 abbrev pub act_fits : Act → ℕ → LaterRequestsData → Bool
 act_fits (Deed dated) last requests = true
 act_fits (Word word) last requests = fits word last requests
 
 -- ---- what acts make, one after another
 
+-- the accepted requests behind acts
 abbrev pub requests_of : List Act → LaterRequestsData → LaterRequestsData
 requests_of [] requests = requests
 requests_of (act ∷ acts) requests = requests_of acts (requests_after act requests)
