@@ -157,7 +157,7 @@ int connect(int file, const struct sockaddr *to, socklen_t size) {
 
 int clock_gettime(clockid_t which, struct timespec *into) {
   if (seconds && which == CLOCK_REALTIME) {
-    into->tv_sec = seconds + tick * (tally->puts + (tally->lifted != 0)), into->tv_nsec = 0;
+    into->tv_sec = seconds + tick * (tally->puts + (tally->lifted == at + 1)), into->tv_nsec = 0;
     return 0;
   }
   return syscall(SYS_clock_gettime, which, into);
