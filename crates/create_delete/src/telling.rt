@@ -32,7 +32,7 @@ fn path_to_last<T: Tree>(
         ≡ structured_of resource.now.number (entity.now.nodes ++ resource.now ∷ [])) }
     ensures utf8 { IfOk result (λ t. IsUtf8 t) }
 {
-    let mut path = structured(alloc, &entity.tree, resource.parent())?.into_vec();
+    let mut path = structured(alloc, &entity.tree, resource.parent())?.into_vec(alloc)?;
     path.push(b'/')?;
     path.extend_from_slice(resource.name().entries())?;
     Ok(Text::of(path))

@@ -6,4 +6,4 @@ pub mod Raised
 pub mod RoundTrip
 pub mod Depths
 pub mod Parses
-pub mod Plain
+pub mod Escapes

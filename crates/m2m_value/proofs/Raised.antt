@@ -31,11 +31,11 @@ abbrev mutual
 
 -- ---- the two definitions of the text agree
 
-escaped-same : (byte : ℕ) → escaped byte ≡ escape_byte byte
+pub escaped-same : (byte : ℕ) → escaped byte ≡ escape_byte byte
 unfolding escape_byte
 escaped-same byte = grind (arith, nat_tests)
 
-escaped_all-same : (s : List ℕ) → flat_map escaped s ≡ escape s
+pub escaped_all-same : (s : List ℕ) → flat_map escaped s ≡ escape s
 escaped_all-same [] = refl
 escaped_all-same (b ∷ s) = ap₂ (λ x y. x ++ y) (escaped-same b) (escaped_all-same s)
 

@@ -1,5 +1,6 @@
 pub mod Data
 pub mod Code
+pub mod Texts
 pub mod Keys
 pub mod Node
 pub mod Falls

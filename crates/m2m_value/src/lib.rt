@@ -32,6 +32,7 @@ mod key;
 mod known;
 mod parsing;
 mod parts;
+mod plain;
 mod reading;
 mod same;
 mod shapes;

@@ -19,7 +19,7 @@ ghost use Rattle.m2m_value.specs.Reading.{elements_if, pairs_if, value_if};
 
 use crate::key::MemberKey;
 use crate::known::known_name;
-use crate::parts::{key_of, text_of_string, whole};
+use crate::parts::whole;
 use crate::text::Text;
 use crate::value::{Items, Members, Node, Val};
 use fast_float::Numeral;
@@ -71,7 +71,7 @@ fn text_taken(alloc: Global, text: &str) -> Option<Text>
     ensures value { IfSome result (λ t. t ≡ text.now) }
     ensures utf8 { IfSome result (λ t. IsUtf8 t) }
 {
-    Some(text_of_string(String::from_str(alloc, text).ok()?))
+    Text::from_slice(alloc, text.as_bytes()).ok()
 }
 
 fn key_taken(alloc: Global, name: &str) -> Option<MemberKey>
@@ -89,7 +89,7 @@ fn own_key(alloc: Global, name: &str) -> Option<MemberKey>
     ensures value { IfSome result (λ k. k ≡ name.now) }
     ensures utf8 { IfSome result (λ k. IsUtf8 k) }
 {
-    Some(key_of(String::from_str(alloc, name).ok()?))
+    Some(MemberKey::of(text_taken(alloc, name)?))
 }
 
 #[cycle(taken)]

@@ -1,5 +1,5 @@
 //! Lists of bytes, of numbers and of texts, which clauses see as the lists themselves.
-ghost use Rattle.std.specs.Prelude.{◌≡◌, IfOk, nat_eq};
+ghost use Rattle.std.specs.Prelude.{◌≡◌, ◌++◌, ◌+◌, ◌≤◌, [], IfOk, IfSome, nat_eq, length, take};
 ghost use Rattle.std.specs.Cmp.Rules.{comparing};
 ghost use Rattle.std.specs.Cmp.Lexicographic.{pointwise};
 ghost use Rattle.std.proofs.Common.{rules};
@@ -7,10 +7,18 @@ ghost use Rattle.std.proofs.Common.{rules};
 use std::alloc::{AllocError as OutOfMemory, Global};
 use std::marker::Model;
 
-/// A text: bytes, of which the type promises nothing more. Clauses see it as the list of them.
-#[derive(Debug, Drop)]
+/// A text: bytes, of which the type promises nothing more. Clauses see it as the list of them. One
+/// that was copied from at most 30 bytes takes no memory of its own.
+#[derive(Debug)]
 pub struct Text {
-    bytes: Vec<u8>,
+    place: Place,
+}
+
+// Where its bytes are.
+#[derive(Debug, Drop)]
+enum Place {
+    Inside(u8, [u8; Text::ROOM]),
+    Outside(Vec<u8>),
 }
 
 impl Model for Text {
@@ -18,43 +26,143 @@ impl Model for Text {
 
     ghost Value = { List ℕ };
 
-    ghost view = { λ t. t.bytes.items };
+    ghost use Rattle.m2m_value.specs.Texts.{bytes_at, IsPlace};
+
+    ghost view = { λ t. bytes_at t.place };
+
+    ghost invariant = { λ t. IsPlace t.place };
+}
+
+// Written out, so that where a text goes out of scope is a call, and no case of where it stands.
+impl Drop for Text {
+    fn drop(self) {
+        let Text { place } = self;
+        drop(place);
+    }
+}
+
+// Puts a part behind so many bytes, and says how many there are then.
+fn put_behind(inside: &mut [u8; Text::ROOM], len: usize, part: &[u8]) -> usize
+    requires { len + length part.now ≤ 30 }
+    ensures bytes { take result inside.new ≡ take len inside.old ++ part.now }
+    ensures len { result ≡ len + length part.now }
+{
+    let end = len + part.len();
+    inside[len..end].copy_from_slice(part);
+    end
 }
 
 impl Text {
+    /// A text of at most so many bytes needs no memory of its own.
+    pub const ROOM: usize = 30;
+
     /// Takes no memory.
     pub fn of(bytes: Vec<u8>) -> Text
         ensures { result ≡ bytes.items }
     {
-        Text { bytes }
+        Text {
+            place: Place::Outside(bytes),
+        }
+    }
+
+    /// The text of no byte. Takes no memory.
+    pub fn empty() -> Text
+        ensures { result ≡ [] }
+    {
+        Text {
+            place: Place::Inside(0, [0; Text::ROOM]),
+        }
     }
 
     /// A text of these bytes.
     pub fn from_slice(alloc: Global, bytes: &[u8]) -> Result<Text, OutOfMemory>
         ensures { IfOk result (λ t. t ≡ bytes.now) }
     {
+        let len = bytes.len();
+        if len <= Text::ROOM {
+            let mut inside = [0; Text::ROOM];
+            inside[..len].copy_from_slice(bytes);
+            return Ok(Text {
+                place: Place::Inside(len as u8, inside),
+            });
+        }
         Ok(Text::of(Vec::from_slice(alloc, bytes)?))
     }
 
-    /// Its bytes; nothing is copied.
-    pub fn into_vec(self) -> Vec<u8>
-        ensures { result.items ≡ self }
+    /// A text of three parts, one behind another.
+    pub fn from_parts(
+        alloc: Global,
+        first: &[u8],
+        second: &[u8],
+        third: &[u8],
+    ) -> Result<Text, OutOfMemory>
+        ensures { IfOk result (λ t. t ≡ first.now ++ second.now ++ third.now) }
     {
-        self.bytes
+        let len = first
+            .len()
+            .saturating_add(second.len())
+            .saturating_add(third.len());
+        if len <= Text::ROOM {
+            let mut inside = [0; Text::ROOM];
+            let one = put_behind(&mut inside, 0, first);
+            let two = put_behind(&mut inside, one, second);
+            let three = put_behind(&mut inside, two, third);
+            return Ok(Text {
+                place: Place::Inside(three as u8, inside),
+            });
+        }
+        let mut bytes = Vec::with_capacity(alloc, len)?;
+        bytes.extend_from_slice(first)?;
+        bytes.extend_from_slice(second)?;
+        bytes.extend_from_slice(third)?;
+        Ok(Text::of(bytes))
+    }
+
+    /// Its memory, emptied, where it has some of its own.
+    pub fn into_room(self) -> Option<Vec<u8>>
+        ensures { IfSome result (λ v. v.items ≡ []) }
+    {
+        let Text { place } = self;
+        match place {
+            Place::Inside(_, _) => None,
+            Place::Outside(mut bytes) => {
+                bytes.clear();
+                Some(bytes)
+            }
+        }
+    }
+
+    /// Its bytes. Only a text without memory of its own is copied.
+    pub fn into_vec(self, alloc: Global) -> Result<Vec<u8>, OutOfMemory>
+        ensures { IfOk result (λ v. v.items ≡ self) }
+    {
+        let Text { place } = self;
+        match place {
+            Place::Inside(len, bytes) => Vec::from_slice(alloc, &bytes[..len as usize]),
+            Place::Outside(bytes) => Ok(bytes),
+        }
     }
 
     /// Its bytes.
     pub fn entries(&self) -> &[u8]
         ensures { result.now ≡ self.now }
     {
-        &self.bytes
+        match &self.place {
+            Place::Inside(len, bytes) => &bytes[..*len as usize],
+            Place::Outside(bytes) => bytes,
+        }
     }
 
     /// An equal text.
     pub fn copy(&self, alloc: Global) -> Result<Text, OutOfMemory>
         ensures { IfOk result (λ t. t ≡ self.now) }
     {
-        Text::from_slice(alloc, &self.bytes)
+        match &self.place {
+            Place::Inside(len, bytes) => Ok(Text {
+                place: Place::Inside(*len, *bytes),
+            }),
+            Place::Outside(bytes) => Text::from_slice(alloc, bytes),
+        }
     }
 }
 
@@ -150,7 +258,7 @@ impl PartialEq for Text {
     ghost laws = { Prim.search (comparing, rules) };
 
     fn eq(&self, other: &Text) -> bool {
-        self.bytes == other.bytes
+        self.entries() == other.entries()
     }
 }
 

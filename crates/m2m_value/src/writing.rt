@@ -2,15 +2,15 @@
 ghost use Rattle.std.specs.Prelude.{◌≡◌, ◌<◌, ◌≤◌, ◌++◌, ◌∷◌, [], OnOk, OnErr, flat_map, length};
 ghost use Rattle.std.specs.Char.{digit_char};
 ghost use Rattle.std.specs.Fmt.{decimal, signed_decimal};
-ghost use Rattle.std.specs.List.{prefix_len};
 ghost use Rattle.m2m_value.specs.Data.{depth, elements_of, pairs_of};
 ghost use Rattle.m2m_value.specs.Node.{AreSorted};
 ghost use Rattle.m2m_value.specs.Reading.{reading, reading_depth};
 ghost use Rattle.m2m_value.specs.Sound.{IsSound, AreSound, HaveSound, BeginsWith};
-ghost use Rattle.m2m_value.specs.Spelling.{short_escape, escaped, is_plain, quoted, comma_at};
+ghost use Rattle.m2m_value.specs.Spelling.{short_escape, escaped, quoted, comma_at};
 ghost use Rattle.m2m_value.specs.Spelling.{text_of, elements_from, pairs_from};
 
 use crate::key::MemberKey;
+use crate::plain::{all_plain, plain_end};
 use crate::value::{Items, Members, Node, Val};
 use itoa::Buffer;
 use std::alloc::AllocError as OutOfMemory;
@@ -152,41 +152,34 @@ fn write_text(text: &[u8], out: &mut Vec<u8>) -> Result<(), OutOfMemory>
     Ok(())
 }
 
-/// Whether the byte stands for itself.
-fn is_plain(byte: u8) -> bool
-    ensures { result ≡ is_plain byte }
-{
-    byte >= 32 && short_escape(byte).is_none()
-}
-
-/// How many bytes at the front stand for themselves.
-fn plain_front(text: &[u8]) -> usize
-    ensures value { result ≡ prefix_len is_plain text.now }
-    ensures within { result ≤ length text.now }
-{
-    text.iter().take_while(|byte| is_plain(**byte)).count()
-}
-
-/// Appends what stands for the bytes of a text: those at its front that stand for themselves go
-/// out at once.
+/// Appends what stands for the bytes of a text, which mostly stand for themselves.
 fn write_inside(text: &[u8], out: &mut Vec<u8>) -> Result<(), OutOfMemory>
     ensures ok { OnOk result (out.new.items ≡ out.old.items ++ flat_map escaped text.now) }
     ensures err { OnErr result (BeginsWith out.old.items out.new.items) }
 {
-    let plain = plain_front(text);
-    out.extend_from_slice(&text[..plain])?;
-    write_escaped(&text[plain..], out)
+    if all_plain(text) {
+        out.extend_from_slice(text)
+    } else {
+        write_escaped(text, out)
+    }
 }
 
-/// Appends what stands for the bytes of a text, one after another.
+/// The same: those that stand for themselves go out at once, up to each that doesn't.
+#[inline(never)]
 fn write_escaped(text: &[u8], out: &mut Vec<u8>) -> Result<(), OutOfMemory>
     ensures ok { OnOk result (out.new.items ≡ out.old.items ++ flat_map escaped text.now) }
     ensures err { OnErr result (BeginsWith out.old.items out.new.items) }
 {
-    for byte in text {
-        write_byte(*byte, out)?;
+    let mut at = 0;
+    loop {
+        let stop = plain_end(text, at);
+        out.extend_from_slice(&text[at..stop])?;
+        if stop == text.len() {
+            return Ok(());
+        }
+        write_byte(text[stop], out)?;
+        at = stop + 1;
     }
-    Ok(())
 }
 
 fn write_byte(byte: u8, out: &mut Vec<u8>) -> Result<(), OutOfMemory>

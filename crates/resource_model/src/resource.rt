@@ -23,19 +23,14 @@ pub struct Moments {
     pub et: u64,
 }
 
-/// Room for a short word, a mark and a number, in bytes.
-const ROOM: usize = 32;
-
 /// A word, a mark behind it, and a number in decimal digits.
 pub fn numbered(alloc: Global, word: &str, mark: &str, number: u64) -> Result<Text, OutOfMemory>
     ensures value { IfOk result (λ t. t ≡ word.now ++ mark.now ++ decimal number) }
     ensures utf8 { IfOk result (λ t. IsUtf8 t) }
 {
-    let mut text = String::with_capacity(alloc, ROOM)?;
-    text.push_str(word)?;
-    text.push_str(mark)?;
-    text.push_str(Buffer::new().format(number))?;
-    Ok(Text::of(text.into_bytes()))
+    let mut digits = Buffer::new();
+    let digits = digits.format(number).as_bytes();
+    Ok(Text::from_parts(alloc, word.as_bytes(), mark.as_bytes(), digits)?)
 }
 
 /// The resource identifier of a type and a number: the short word of the type, and the number.

@@ -41,7 +41,7 @@ pub fn reference_of(alloc: Global, home: &Home, sub: &Resource) -> Result<Text, 
     ensures value { IfOk result (λ t. t ≡ spec.reference_of home.now sub.now) }
     ensures utf8 { IfOk result (λ t. IsUtf8 t) }
 {
-    let mut bytes = own_cse_id(alloc, home, ID_ROOM)?.into_vec();
+    let mut bytes = own_cse_id(alloc, home, ID_ROOM)?.into_vec(alloc)?;
     bytes.push(b'/')?;
     push_id(&mut bytes, sub)?;
     Ok(Text::of(bytes))

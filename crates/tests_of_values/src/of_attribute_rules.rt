@@ -315,8 +315,7 @@ fn fault_text(alloc: Global, fault: AttrFault) -> Result<String, OutOfMemory> {
     match fault {
         AttrFault::Shape => word(alloc, "Shape"),
         AttrFault::Unknown(key) => {
-            let key = key.into_vec();
-            let name = std::str::from_utf8(&key).unwrap_or("");
+            let name = std::str::from_utf8(key.entries()).unwrap_or("");
             format!(in alloc; "Unknown {name}")
         }
         AttrFault::NotAllowed(attr) => format!(in alloc; "NotAllowed {}", attr.short()),

@@ -245,7 +245,7 @@ fn stamp(alloc: Global, moment: u64) -> Result<Val, OutOfMemory>
 {
     let mut bytes = [0; 15];
     let _written = write_stamp(moment, &mut bytes);
-    Ok(Val::of_text(Text::of(Vec::from_slice(alloc, &bytes)?)))
+    Ok(Val::of_text(Text::from_slice(alloc, &bytes)?))
 }
 
 fn id_of_parent<T: Tree>(alloc: Global, tree: &T, resource: &Resource) -> Result<Text, OutOfMemory>
@@ -265,11 +265,7 @@ fn own_cse_id(alloc: Global, home: &Home) -> Result<Text, OutOfMemory>
     ensures value { IfOk result (λ t. t ≡ own_cse_id home.now) }
     ensures utf8 { IfOk result (λ t. IsUtf8 t) }
 {
-    let csi = home.csi().entries();
-    let mut bytes = Vec::with_capacity(alloc, csi.len().saturating_add(1))?;
-    bytes.push(b'/')?;
-    bytes.extend_from_slice(csi)?;
-    Ok(Text::of(bytes))
+    Ok(Text::from_parts(alloc, b"/", home.csi().entries(), b"")?)
 }
 
 fn shown_ty(ty: Ty) -> Val

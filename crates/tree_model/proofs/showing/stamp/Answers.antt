@@ -8,10 +8,10 @@ use Rattle.tree_model.proofs.showing.stamp.Goals as goal
 pub of_text-requires : goal.of_text-requires
 of_text-requires c =
     let written : c.write_stamp-written.result ≡ true = c.write_stamp-written.ensures.succeeds.1 c.requires in
-    rw (c.of.ensures, c.in_ok-from_slice.ensures.items) (stamp_utf8 _ c.args.moment (OnTrue_at written c.write_stamp-written.ensures.means))
+    rw (c.in_ok-from_slice.ensures) (stamp_utf8 _ c.args.moment (OnTrue_at written c.write_stamp-written.ensures.means))
 
 pub returns : goal.returns
 unfolding shown_moment
 returns c =
     let written : c.write_stamp-written.result ≡ true = c.write_stamp-written.ensures.succeeds.1 c.requires in
-    c.of_text.ensures ∙ ap text (c.of.ensures ∙ c.in_ok-from_slice.ensures.items ∙ OnTrue_at written c.write_stamp-written.ensures.ok)
+    c.of_text.ensures ∙ ap text (c.in_ok-from_slice.ensures ∙ OnTrue_at written c.write_stamp-written.ensures.ok)
