@@ -1,7 +1,5 @@
 -- Bits by rules, in tables by the numbers of resources.
-use Rattle.std.specs.Prelude.{◌≡◌, ◌⊎◌, ℕ, List, [], Some, if◌then◌else◌, option_map}
-use Rattle.std.specs.BTreeMap.{BTreeMap, get, is_at}
-use Rattle.std.specs.Ordering.{nat_cmp}
+use Rattle.std.specs.Prelude.{◌≡◌, ◌⊎◌, ℕ, List, [], ◌∷◌, ◌++◌, Contains, Some, option_map}
 use Rattle.std.specs.Option.{option_map_or}
 use Rattle.m2m_names.specs.declared.attributes.Attr.TheVariants.{Pv}
 use Rattle.m2m_value.specs.Data.{Data}
@@ -18,15 +16,15 @@ lent_rules policy = rules_in (value_of Pv policy.attrs)
 
 -- what a table has at the number of a resource are the bits that these rules of it give
 abbrev pub AreBits : (ResourceData → List Rule) → HomeData → List ResourceData →
-    List ℕ → BTreeMap ℕ ℕ → Type 0
+    List ℕ → List (ℕ × ℕ) → Type 0
 AreBits rules home nodes originator table =
     (r : ResourceData) (bits : ℕ) → at r.number nodes ≡ Some r
-    → get nat_cmp table r.number ≡ Some bits → bits ≡ bits_by home originator (rules r)
+    → Contains table (r.number, bits) → bits ≡ bits_by home originator (rules r)
 
 -- what a table has at a number are the bits that the policy of that number gives, which is there
-abbrev pub AreLent : HomeData → List ResourceData → List ℕ → BTreeMap ℕ ℕ → Type 0
+abbrev pub AreLent : HomeData → List ResourceData → List ℕ → List (ℕ × ℕ) → Type 0
 AreLent home nodes originator table =
-    (n bits : ℕ) → get nat_cmp table n ≡ Some bits
+    (n bits : ℕ) → Contains table (n, bits)
     → option_map (λ p. bits_by home originator (lent_rules p)) (policy_at nodes n) ≡ Some bits
 
 -- the rules by which the policy that an id names gives rights, where there is one
@@ -34,8 +32,5 @@ abbrev pub rules_by_id : List ResourceData → Data → List Rule
 rules_by_id nodes id = option_map_or lent_rules (policy_of nodes id) []
 
 -- a table has these bits at the number besides, or has no room for them and is as it was
-abbrev pub NotesOrStays : BTreeMap ℕ ℕ → BTreeMap ℕ ℕ → ℕ → ℕ → Type 0
-NotesOrStays old new number bits =
-    (n : ℕ) → (get nat_cmp new n
-    ≡ (if is_at (nat_cmp number) n then Some bits else get nat_cmp old n))
-    ⊎ (get nat_cmp new n ≡ get nat_cmp old n)
+abbrev pub NotesOrStays : List (ℕ × ℕ) → List (ℕ × ℕ) → ℕ → ℕ → Type 0
+NotesOrStays old new number bits = (new ≡ old ++ (number, bits) ∷ []) ⊎ (new ≡ old)

@@ -1,10 +1,7 @@
 //! The rights of an asker on many resources.
-ghost use Rattle.std.specs.Prelude.{◌≡◌, IfSome, IsTrue, Some, option_and_then};
-ghost use Rattle.std.specs.BTreeMap.{get};
-ghost use Rattle.std.specs.Ordering.{nat_cmp};
+ghost use Rattle.std.specs.Prelude.{◌≡◌, IfSome, IsTrue, Some};
 ghost use Rattle.m2m_names.specs.declared.attributes.Attr.TheVariants.{Acpi, Pv};
 ghost use Rattle.m2m_names.specs.Name.{is_originator};
-ghost use Rattle.m2m_value.specs.View.{as_text};
 ghost use Rattle.resource_model.specs.Attributes.{value_of};
 ghost use Rattle.tree_model.specs.Tree.{at};
 ghost use Rattle.policy_eval.specs.Rights as spec;
@@ -13,11 +10,11 @@ ghost use Rattle.known_rights.specs.Known.{IsKnown};
 ghost use Rattle.known_rights.specs.Tables.{lent_rules, rules_by_id, NotesOrStays};
 
 use crate::asker::Asker;
-use crate::known::{Known, ReadList, bits_at, note_bits};
-use crate::rules::{bits_by_rules, policy_number};
+use crate::known::{Known, ReadList};
+use crate::rules::bits_by_rules;
 use m2m_names::{ALL_BITS, Attr, Ty};
 use m2m_value::Val;
-use policy_eval::{granted_on, has_bits, listed_in, policy_named, rules_in};
+use policy_eval::{granted_on, has_bits, listed_in, policy_at, policy_number, rules_in};
 use tree_model::{Resource, Tree};
 
 // The bits by `pv` of a policy, as its rules are read.
@@ -27,26 +24,18 @@ fn read_bits(asker: &Asker, policy: &Resource) -> u32
     bits_by_rules(asker, rules_in(policy.attrs().get(Attr::Pv)))
 }
 
-// The bits, and those that a policy gives besides, whose bits are known then.
-fn with_policy(asker: &Asker, bits: u32, policy: &Resource, known: &mut Known) -> u32
+// The bits, and those that the policy of a number gives besides, whose bits are known then.
+fn with_policy(asker: &Asker, bits: u32, number: u64, policy: &Resource, known: &mut Known) -> u32
     ensures bits { result
         ≡ spec.with_rules asker.now.home asker.now.originator bits (lent_rules policy.now) }
-    ensures policies { NotesOrStays known.old.policies known.new.policies policy.now.number
+    ensures policies { NotesOrStays known.old.policies known.new.policies number
         (spec.bits_by asker.now.home asker.now.originator (lent_rules policy.now)) }
     ensures linked { known.new.linked ≡ known.old.linked }
     ensures last { known.new.last ≡ known.old.last }
 {
     let own = read_bits(asker, policy);
-    note_bits(&mut known.policies, policy.number(), own);
+    known.policies.note(number, own);
     bits | own
-}
-
-// What is known of the policy that an id names.
-fn known_by_id(known: &Known, id: &Val) -> Option<u32>
-    ensures { result ≡ option_and_then (λ n. get nat_cmp known.now.policies n)
-        (option_and_then spec_rules.policy_number (as_text id.now)) }
-{
-    bits_at(&known.policies, policy_number(id)?)
 }
 
 // The bits, and those that the policy which an id names gives besides. One that is known isn't
@@ -57,11 +46,14 @@ fn with_id<T: Tree>(tree: &T, asker: &Asker, bits: u32, id: &Val, known: &mut Kn
         (rules_by_id (T.nodes tree.now) id.now) }
     ensures known { IsKnown asker.now.home (T.nodes tree.now) asker.now.originator known.new }
 {
-    if let Some(own) = known_by_id(known, id) {
+    let Some(number) = policy_number(id) else {
+        return bits;
+    };
+    if let Some(own) = known.policies.bits_at(number) {
         return bits | own;
     }
-    match policy_named(tree, id) {
-        Some(policy) => with_policy(asker, bits, policy, known),
+    match policy_at(tree, number) {
+        Some(policy) => with_policy(asker, bits, number, policy, known),
         None => bits,
     }
 }
@@ -180,11 +172,11 @@ fn container_bits<T: Tree>(tree: &T, asker: &Asker, container: &Resource, known:
         (spec_rules.linked_rules Pv (T.nodes tree.now) container.now) }
     ensures known { IsKnown asker.now.home (T.nodes tree.now) asker.now.originator known.new }
 {
-    if let Some(bits) = bits_at(&known.linked, container.number()) {
+    if let Some(bits) = known.linked.bits_at(container.number()) {
         return bits;
     }
     let bits = linked_bits(tree, asker, container, known);
-    note_bits(&mut known.linked, container.number(), bits);
+    known.linked.note(container.number(), bits);
     bits
 }
 

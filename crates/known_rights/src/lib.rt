@@ -20,6 +20,7 @@ mod asker;
 mod granting;
 mod known;
 mod rules;
+mod table;
 
 pub use asker::Asker;
 pub use granting::granted_besides;

@@ -1,27 +1,14 @@
 //! Whom rules are for, and what they give the asker.
-ghost use Rattle.std.specs.Prelude.{◌≡◌, map, option_and_then};
-ghost use Rattle.m2m_value.specs.View.{as_text};
+ghost use Rattle.std.specs.Prelude.{◌≡◌, map};
+ghost use Rattle.policy_eval.specs.Forms.{last_byte};
 ghost use Rattle.policy_eval.specs.Originators.{does_name, fits_pattern};
 ghost use Rattle.policy_eval.specs.Rights.{is_subject, with_rule, with_rules};
 ghost use Rattle.policy_eval.specs.Rules as spec;
 ghost use Rattle.policy_eval.specs.Rules.{named, texts_of};
 
 use crate::asker::Asker;
-use m2m_names::{Ty, read_id};
 use m2m_value::Val;
-use policy_eval::{bits_of, entries_of};
-
-/// The number in the resource id of a policy.
-pub(crate) fn policy_number(id: &Val) -> Option<u64>
-    ensures { result ≡ option_and_then spec.policy_number (as_text id.now) }
-{
-    let (ty, number) = read_id(id.as_text()?.entries())?;
-    if ty.number() == Ty::AccessControlPolicy.number() {
-        Some(number)
-    } else {
-        None
-    }
-}
+use policy_eval::{bits_of, entries_of, last_byte, may_name};
 
 fn does_fit(asker: &Asker, entry: &[u8]) -> bool
     ensures { result ≡ fits_pattern asker.now.home asker.now.originator entry.now }
@@ -38,14 +25,25 @@ fn names(asker: &Asker, entry: &[u8]) -> bool
         || does_fit(asker, entry)
 }
 
+// Whether an entry of `acor` names the asker, whose full form ends in this byte. Most entries that
+// don't differ in their last byte.
+#[tactic(auto, using(policy_eval::proofs::LastLemmas::names_nobody))]
+fn does_name(asker: &Asker, last: u8, entry: &[u8]) -> bool
+    requires { last ≡ last_byte asker.now.originator }
+    ensures { result ≡ does_name asker.now.home asker.now.originator entry.now }
+{
+    may_name(last, entry) && names(asker, entry)
+}
+
 // Whether an entry of `acor` names the asker.
 fn name_one(asker: &Asker, entries: &[Val]) -> bool
     ensures { result
         ≡ is_subject asker.now.home asker.now.originator (named (texts_of entries.now)) }
 {
+    let last = last_byte(asker.originator());
     for entry in entries {
         if let Some(text) = entry.as_text() {
-            if names(asker, text.entries()) {
+            if does_name(asker, last, text.entries()) {
                 return true;
             }
         }

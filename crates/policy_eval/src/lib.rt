@@ -26,8 +26,10 @@ mod policies;
 mod rights;
 
 pub use laws::a_policy_is_named_by_its_id;
-pub use originators::is_same;
-pub use policies::{bits_of, entries_of, listed_in, policy_at, policy_named, rules_in};
+pub use originators::{is_same, last_byte, may_name};
+pub use policies::{
+    bits_of, entries_of, listed_in, policy_at, policy_named, policy_number, rules_in,
+};
 pub use rights::{
     bits, fan_bits, fan_granted, granted, granted_on, has_bits, may_relink, with_rules,
 };

@@ -2,7 +2,7 @@
 ghost use Rattle.std.specs.Prelude.{◌≡◌, ◌++◌, codes, nat_eq, false, MatchOption};
 ghost use Rattle.std.specs.List.{starts_with};
 ghost use Rattle.std.specs.Str.{bytes_eq};
-ghost use Rattle.policy_eval.specs.Forms.{IsForm, end_alike};
+ghost use Rattle.policy_eval.specs.Forms.{IsForm, end_alike, last_byte, may_name};
 ghost use Rattle.policy_eval.specs.Originators as spec;
 ghost use Rattle.policy_eval.specs.Originators.{own_lead};
 
@@ -113,8 +113,7 @@ fn fits_pattern(home: &Home, originator: &[u8], entry: &[u8]) -> bool
     entry.ends_with(b"*".as_slice()) && is_front(home, originator, &entry[..entry.len() - 1])
 }
 
-/// Whether an entry of `acor` names the originator, whose full form is read apart so.
-pub(crate) fn does_name(home: &Home, originator: &[u8], form: Form, entry: &[u8]) -> bool
+fn names(home: &Home, originator: &[u8], form: Form, entry: &[u8]) -> bool
     requires { IsForm home.now originator.now form }
     ensures { result ≡ spec.does_name home.now originator.now entry.now }
 {
@@ -122,4 +121,35 @@ pub(crate) fn does_name(home: &Home, originator: &[u8], form: Form, entry: &[u8]
         || entry == b"*".as_slice()
         || is_of_form(home, originator, form, entry)
         || fits_pattern(home, originator, entry)
+}
+
+/// The last byte of the full form of a text: its own, or the slash behind own CSE-ID where it is
+/// empty.
+pub fn last_byte(text: &[u8]) -> u8
+    ensures { result ≡ last_byte text.now }
+{
+    match text.last() {
+        Some(byte) => *byte,
+        None => b'/',
+    }
+}
+
+/// Whether the full form of an entry ends in this byte, or the entry in the last one of `all` or in
+/// `*`. An entry of which this isn't so names nobody whose full form ends in the byte.
+pub fn may_name(last: u8, entry: &[u8]) -> bool
+    ensures { result ≡ may_name last entry.now }
+{
+    let byte = last_byte(entry);
+    byte == last || byte == b'l' || byte == b'*'
+}
+
+/// Whether an entry of `acor` names the originator, whose full form is read apart so and ends in
+/// this byte. Most entries that don't differ in their last byte.
+#[tactic(auto, using(crate::proofs::LastLemmas::names_nobody))]
+pub(crate) fn does_name(home: &Home, originator: &[u8], form: Form, last: u8, entry: &[u8]) -> bool
+    requires form { IsForm home.now originator.now form }
+    requires last { last ≡ last_byte originator.now }
+    ensures { result ≡ spec.does_name home.now originator.now entry.now }
+{
+    may_name(last, entry) && names(home, originator, form, entry)
 }

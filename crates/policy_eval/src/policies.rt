@@ -1,16 +1,18 @@
 //! Rules and policies as resources keep them.
-ghost use Rattle.std.specs.Prelude.{◌≡◌, codes, map, option_map};
+ghost use Rattle.std.specs.Prelude.{◌≡◌, codes, map, option_and_then, option_map};
+ghost use Rattle.m2m_value.specs.View.{as_text};
 ghost use Rattle.policy_eval.specs.Rules as spec;
 
-use m2m_names::{ALL_BITS, Attr, Ty};
+use filter_criteria::value_among;
+use m2m_names::{ALL_BITS, Attr, Ty, read_digits};
 use m2m_value::Val;
-use tree_model::{Resource, Tree, of_type, resource_of_id, typed_at};
+use tree_model::{Resource, Tree, typed_at};
 
-/// The member of an object.
+/// The member of an object. A rule has two of them, so they are gone through.
 fn member_at<'a>(value: &'a Val, key: &[u8]) -> Option<&'a Val>
     ensures { option_map (λ v. v.now) result ≡ spec.member_at key.now value.now }
 {
-    value.as_obj()?.get(key)
+    value_among(value.as_obj()?.entries(), key)
 }
 
 /// The elements of a list; of what is no list, and where there is none, none.
@@ -83,12 +85,26 @@ pub fn policy_at<T: Tree>(tree: &T, number: u64) -> Option<&Resource>
     typed_at(tree, Ty::AccessControlPolicy, number)
 }
 
+/// The number in the resource id of a policy: behind the short word of policies stands nothing but
+/// the digits.
+fn number_in(id: &[u8]) -> Option<u64>
+    ensures { result ≡ spec.policy_number id.now }
+{
+    read_digits(id.strip_prefix(b"acp".as_slice())?)
+}
+
+/// The number in the resource id of a policy, as 4 in `acp4`.
+pub fn policy_number(id: &Val) -> Option<u64>
+    ensures { result ≡ option_and_then spec.policy_number (as_text id.now) }
+{
+    number_in(id.as_text()?.entries())
+}
+
 /// The policy that an id names: one look-up.
 pub fn policy_named<'a, T: Tree>(tree: &'a T, id: &Val) -> Option<&'a Resource>
     ensures { option_map (λ r. r.now) result ≡ spec.policy_of (T.nodes tree.now) id.now }
 {
-    let named = resource_of_id(tree, id.as_text()?.entries())?;
-    of_type(named, Ty::AccessControlPolicy)
+    policy_at(tree, policy_number(id)?)
 }
 
 /// The ids that an attribute of a resource lists.

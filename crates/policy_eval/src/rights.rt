@@ -3,24 +3,26 @@ ghost use Rattle.std.specs.Prelude.{◌≡◌, [], ◌∷◌, IsTrue, Some, map}
 ghost use Rattle.m2m_names.specs.Name.{is_originator};
 ghost use Rattle.m2m_names.specs.Operations.{all_bits};
 ghost use Rattle.tree_model.specs.Tree.{at, has};
+ghost use Rattle.policy_eval.specs.Forms.{IsForm};
 ghost use Rattle.policy_eval.specs.Rules as spec_rules;
 ghost use Rattle.policy_eval.specs.Rules.{named, texts_of};
 ghost use Rattle.policy_eval.specs.Rights as spec;
 
-use crate::originators::{does_name, form_of, is_same};
+use crate::originators::{Form, does_name, form_of, is_same, last_byte};
 use crate::policies::{bits_of, entries_of, ids_at, policy_named, registree, rules_in};
 use m2m_names::{ALL_BITS, Attr, Op, Ty};
 use m2m_value::Val;
 use tree_model::{Home, Resource, Tree};
 
-/// Whether an entry of `acor` names the originator.
-fn is_subject(home: &Home, originator: &[u8], entries: &[Val]) -> bool
+/// Whether an entry of `acor` names the originator, whose full form is read apart so.
+fn is_subject(home: &Home, originator: &[u8], form: Form, entries: &[Val]) -> bool
+    requires { IsForm home.now originator.now form }
     ensures { result ≡ spec.is_subject home.now originator.now (named (texts_of entries.now)) }
 {
-    let form = form_of(home, originator);
+    let last = last_byte(originator);
     for entry in entries {
         if let Some(text) = entry.as_text() {
-            if does_name(home, originator, form, text.entries()) {
+            if does_name(home, originator, form, last, text.entries()) {
                 return true;
             }
         }
@@ -28,20 +30,23 @@ fn is_subject(home: &Home, originator: &[u8], entries: &[Val]) -> bool
     false
 }
 
-fn with_rule(home: &Home, originator: &[u8], bits: u32, rule: &Val) -> u32
+fn with_rule(home: &Home, originator: &[u8], form: Form, bits: u32, rule: &Val) -> u32
+    requires { IsForm home.now originator.now form }
     ensures { result
         ≡ spec.with_rule home.now originator.now bits (spec_rules.stated_rule rule.now) }
 {
-    if is_subject(home, originator, entries_of(rule)) {
+    if is_subject(home, originator, form, entries_of(rule)) {
         bits | bits_of(rule)
     } else {
         bits
     }
 }
 
-/// The bits, and those that rules give the originator besides. Who has all bits gets no more.
+/// The bits, and those that rules give the originator besides, whose full form is read apart so.
+/// Who has all bits gets no more.
 #[tactic(auto, using(crate::proofs::BitLemmas::all_had))]
-pub fn with_rules(home: &Home, originator: &[u8], bits: u32, rules: &[Val]) -> u32
+fn with_rules_of(home: &Home, originator: &[u8], form: Form, bits: u32, rules: &[Val]) -> u32
+    requires { IsForm home.now originator.now form }
     ensures { result
         ≡ spec.with_rules home.now originator.now bits (map spec_rules.stated_rule rules.now) }
 {
@@ -50,9 +55,17 @@ pub fn with_rules(home: &Home, originator: &[u8], bits: u32, rules: &[Val]) -> u
         if bits == ALL_BITS {
             return ALL_BITS;
         }
-        bits = with_rule(home, originator, bits, rule);
+        bits = with_rule(home, originator, form, bits, rule);
     }
     bits
+}
+
+/// The bits, and those that rules give the originator besides. Who has all bits gets no more.
+pub fn with_rules(home: &Home, originator: &[u8], bits: u32, rules: &[Val]) -> u32
+    ensures { result
+        ≡ spec.with_rules home.now originator.now bits (map spec_rules.stated_rule rules.now) }
+{
+    with_rules_of(home, originator, form_of(home, originator), bits, rules)
 }
 
 /// The bits that the policies which ids name give by one of their lists of rules.
@@ -67,10 +80,12 @@ fn bits_by_policies<T: Tree>(
         ≡ spec.bits_by home.now originator.now
         (spec_rules.rules_by attr (T.nodes tree.now) ids.now) }
 {
+    let form = form_of(home, originator);
     let mut bits = 0;
     for id in ids {
         if let Some(policy) = policy_named(tree, id) {
-            bits = with_rules(home, originator, bits, rules_in(policy.attrs().get(attr)));
+            let rules = rules_in(policy.attrs().get(attr));
+            bits = with_rules_of(home, originator, form, bits, rules);
         }
     }
     bits

@@ -11,5 +11,4 @@ returns-clause-bits c =
 
 pub returns-clause-policies : goal.returns-clause-policies
 returns-clause-policies c =
-    subst (λ (bits : ℕ). NotesOrStays c.args.known.now.policies c.note_bits.new.table c.args.policy.now.number bits) c.read_bits-own.ensures
-    (subst (λ (n : ℕ). NotesOrStays c.args.known.now.policies c.note_bits.new.table n c.read_bits-own.result) c.number.ensures.value c.note_bits.ensures)
+    subst (λ (bits : ℕ). NotesOrStays c.args.known.now.policies c.note.new.self c.args.number bits) c.read_bits-own.ensures c.note.ensures

@@ -1,7 +1,7 @@
 use Rattle.std.proofs.Common.{◌≡◌, drop, map}
 use Rattle.policy_eval.specs.Rules.{stated_rule}
 use Rattle.policy_eval.specs.Rights.{with_rules}
-use Rattle.policy_eval.proofs.rights.with_rules.Given as goal
+use Rattle.policy_eval.proofs.rights.with_rules_of.Given as goal
 
 abbrev pub invariant-loop-rule : goal.invariant-loop-rule
 invariant-loop-rule l =
