@@ -7,6 +7,8 @@ pub mod ExpiryLemmas
 pub mod WaitingLemmas
 pub mod SpentLemmas
 pub mod LoweringLemmas
+pub mod OverdueLemmas
+pub mod UnnoticedLemmas
 pub mod OnePassLemmas
 pub mod TellingLemmas
 pub mod SweepingLemmas

@@ -280,7 +280,7 @@ base_spared home [] among moment base = refl
 base_spared home (r ∷ nodes) among moment base = rw (base_parts home r nodes base).kind refl
 
 -- after the expiry nothing is due
-none_live : (nodes : List ResourceData) (moment : ℕ) → is_tree nodes ≡ true → list_any (is_due (without (is_due nodes moment) nodes) moment) (without (is_due nodes moment) nodes) ≡ false
+pub none_live : (nodes : List ResourceData) (moment : ℕ) → is_tree nodes ≡ true → list_any (is_due (without (is_due nodes moment) nodes) moment) (without (is_due nodes moment) nodes) ≡ false
 none_live nodes moment tree =
     none_weaker (is_due nodes moment) (is_due (without (is_due nodes moment) nodes) moment) (λ r due. due_left (is_due nodes moment) nodes moment r tree due)
     (without (is_due nodes moment) nodes) (staying_unpicked (is_due nodes moment) [] nodes)

@@ -1,8 +1,11 @@
 //! The expiry.
-ghost use Rattle.std.specs.Prelude.{◌≡◌, ◌≤◌, length, IfOk, OnOk, OnErr, IsTrue};
+ghost use Rattle.std.specs.Prelude.{◌≡◌, ℕ, ◌≤◌, List, [], length, IfOk, OnOk, OnErr, IsTrue};
+ghost use Rattle.announce_copy.specs.Copies.{copies_of, copies_of_all};
+ghost use Rattle.resource_model.specs.Home.{HomeData};
+ghost use Rattle.subscription_match.specs.Notices.{notes_of, notes_of_all};
 ghost use Rattle.notify_outbox.specs.Outbox.{dropped};
-ghost use Rattle.tree_model.specs.Changes.{removal_changes};
-ghost use Rattle.tree_model.specs.Tree.{is_tree, live, overdue_numbers, DoAscend};
+ghost use Rattle.tree_model.specs.Changes.{change_of, deleted, removal_changes};
+ghost use Rattle.tree_model.specs.Tree.{is_tree, live, overdue_numbers, subs_of, DoAscend};
 ghost use Rattle.entity_model.specs.Entity as spec;
 ghost use Rattle.entity_model.specs.Entity.{expired, expired_told, last_reading, swept};
 ghost use Rattle.entity_model.specs.Telling.{IsTold};
@@ -10,11 +13,13 @@ ghost use Rattle.entity_model.specs.Expiry.{is_some_due};
 
 use crate::entity::Entity;
 use crate::moments::event_moment;
-use crate::telling::{prepare_telling, tell};
+use crate::telling::{nothing_told, prepare_telling, tell};
 use crate::told::Told;
+use announce_copy::lists_peers;
+use m2m_names::Ty;
 use notify_outbox::Outbox;
 use std::alloc::{AllocError as OutOfMemory, Global};
-use tree_model::{Changes, Home, Tree};
+use tree_model::{Change, Changes, Home, Resource, Tree};
 
 /// Brings the entity to the moment of an event at which the clock reads so, in seconds since 1970:
 /// what is due by then is removed, with all that stands below it, and so are the items that have
@@ -89,13 +94,14 @@ fn expire_and_tell<T: Tree>(
     ensures err { OnErr result (entity.new ≡ entity.old) }
 {
     let told = prepare_expiry(alloc, &entity.tree, &entity.home, &mut entity.outbox, gone)?;
-    age(&mut entity.tree, &mut entity.outbox, moment);
+    age_without(&mut entity.tree, &mut entity.outbox, moment, gone);
     entity.last = moment;
     tell(&mut entity.tree, &mut entity.outbox, moment, told);
     Ok(())
 }
 
-// What the removal of these tells, and sends to where copies stand.
+// What the removal of these tells, and sends to where copies stand. Where they go unnoticed, they are
+// gone through once.
 fn prepare_expiry<T: Tree>(
     alloc: Global,
     tree: &T,
@@ -110,9 +116,71 @@ fn prepare_expiry<T: Tree>(
     ensures items { outbox.new.items ≡ outbox.old.items }
     ensures count { outbox.new.count ≡ outbox.old.count }
 {
+    if are_unnoticed(tree, Changes::of_removal(tree, gone)) {
+        return Ok(nothing_told(alloc));
+    }
     let changes = Changes::of_removal(tree, gone);
     let again = Changes::of_removal(tree, gone);
     prepare_telling(alloc, tree, home, outbox, gone, changes, again)
+}
+
+// Whether it is sure that nobody is told of these changes, and that nothing is sent to where copies
+// stand.
+fn are_unnoticed<T: Tree>(tree: &T, changes: Changes<'_, T>) -> bool
+    ensures told { IsTrue result → (home : HomeData) (going : List ℕ)
+        → notes_of_all home (T.nodes tree.now) going changes.entry ≡ [] }
+    ensures sent { IsTrue result → (home : HomeData)
+        → copies_of_all home (T.nodes tree.now) changes.entry ≡ [] }
+{
+    let mut left = changes;
+    while let Some(change) = left.next() {
+        if !is_unnoticed(tree, change) {
+            return false;
+        }
+    }
+    true
+}
+
+// The same of one change: of what goes, where nobody is told that it is gone and it lists no CSE in
+// `at`.
+fn is_unnoticed<T: Tree>(tree: &T, change: Change<'_>) -> bool
+    ensures told { IsTrue result → (home : HomeData) (going : List ℕ)
+        → notes_of home (T.nodes tree.now) going (change_of change.entry) ≡ [] }
+    ensures sent { IsTrue result → (home : HomeData)
+        → copies_of home (T.nodes tree.now) (change_of change.entry) ≡ [] }
+{
+    let Change::Deleted(gone) = change else {
+        return false;
+    };
+    if lists_peers(gone) {
+        return false;
+    }
+    is_untold(tree, gone)
+}
+
+// Whether nobody is told that a resource is gone: it is no subscription, and none stands beside it or
+// under it.
+fn is_untold<T: Tree>(tree: &T, gone: &Resource) -> bool
+    ensures { IsTrue result → (home : HomeData) (going : List ℕ)
+        → notes_of home (T.nodes tree.now) going (deleted gone.now) ≡ [] }
+{
+    if gone.is(Ty::Subscription) {
+        return false;
+    }
+    if !is_unwatched(tree, gone.parent()) {
+        return false;
+    }
+    is_unwatched(tree, gone.number())
+}
+
+// Whether no subscription stands under the resource of a number.
+fn is_unwatched<T: Tree>(tree: &T, number: u64) -> bool
+    ensures { IsTrue result → subs_of number (T.nodes tree.now) ≡ [] }
+{
+    match tree.sub(number, 0) {
+        Some(_) => false,
+        None => true,
+    }
 }
 
 // Time passes: what is due goes, and what has waited the keeping time.
@@ -123,6 +191,18 @@ fn pass<T: Tree>(entity: &mut Entity<T>, moment: u64)
 {
     age(&mut entity.tree, &mut entity.outbox, moment);
     entity.last = moment;
+}
+
+// The same, where these are the numbers of what is overdue: they go at once, and the rest is asked
+// when it is due.
+fn age_without<T: Tree>(tree: &mut T, outbox: &mut Outbox, moment: u64, gone: &[u64])
+    requires tree { IsTrue (is_tree (T.nodes tree.old)) }
+    requires gone { gone.now ≡ overdue_numbers moment (T.nodes tree.old) }
+    ensures nodes { T.nodes tree.new ≡ live moment (T.nodes tree.old) }
+    ensures items { outbox.new ≡ dropped moment outbox.old }
+{
+    tree.remove_all(gone);
+    age(tree, outbox, moment);
 }
 
 // What is due at a moment goes, with all that stands below it, and so does what has waited the

@@ -1,11 +1,11 @@
 -- The first resource after a number, and those until it.
 use Rattle.std.specs.Prelude.{nat_lt}
-use Rattle.std.proofs.Common.{◌≡◌, ◌≢◌, ◌⊎◌, ℕ, zero, suc, ◌+◌, ◌<◌, ◌≤◌, List, [], ◌∷◌, ◌++◌, append_assoc, sum_by, zero-add, Bool, true, false, Option, Some, None, inl, inr, refl, sym, ap, ◌∙◌, subst, arith}
+use Rattle.std.proofs.Common.{◌≡◌, ◌≢◌, ◌⊎◌, ℕ, zero, suc, ◌+◌, ◌<◌, ◌≤◌, List, [], ◌∷◌, ◌++◌, append_assoc, sum_by, zero-add, Bool, true, false, Option, Some, None, option_to_list, inl, inr, refl, sym, ap, ◌∙◌, subst, arith}
 use Rattle.std.proofs.lemmas.Bool.{cases_Bool, both_ways, eq-eqb, eqb-true, le-ltb, lt-ltb, ltb-false, ltb-true}
 use Rattle.std.proofs.lemmas.List.{append-nil}
 use Rattle.std.proofs.lemmas.List.Sums.{sum_by-cons}
 use Rattle.std.proofs.lemmas.Option.{same_Some}
-use Rattle.std.specs.List.{filter}
+use Rattle.std.specs.List.{cons_option, filter, filter_map}
 use Rattle.m2m_names.specs.declared.types.Ty.TheVariants.{ContentInstance}
 use Rattle.resource_model.specs.Resource.{ResourceData, has_number}
 use Rattle.tree_model.specs.Tree.{all_after, at, has, instance_size, instances_of, is_kin, is_tree, next_after, numbers_of, sizes_of}
@@ -79,44 +79,54 @@ until_zero nodes r tree there = by r.number refl
 
 -- ---- the numbers of those that a test picks, gone over
 
-split_next : (n : ℕ) (nodes : List ResourceData) (x : ResourceData) → is_tree nodes ≡ true → next_after n nodes ≡ Some x → all_after n nodes ≡ x ∷ all_after x.number nodes
-split_next n nodes x tree found = step_some n nodes (all_after n nodes) x (tree_ascends nodes tree) refl (sym found)
+module _ (q : ResourceData → Bool) (nodes : List ResourceData) where
+  -- of the resources that these numbers have
+  abbrev pub picked_at : List ℕ → List ℕ
+  picked_at ns = numbers_of (filter q (filter_map (λ n. at n nodes) ns))
 
-module _ (q : ResourceData → Bool) (n : ℕ) (nodes : List ResourceData) where
-  first_of : (x : ResourceData) (rest : List ResourceData) → numbers_of (filter q (x ∷ [])) ++ numbers_of (filter q rest) ≡ numbers_of (filter q (x ∷ rest))
-  first_of x rest = elim (cases_Bool (q x)) [
-    | inl t ↦ rw t refl
-    | inr f ↦ rw f refl
-  ]
+  -- of the one that a number has, if any
+  abbrev pub picked_of : ℕ → List ℕ
+  picked_of n = numbers_of (filter q (option_to_list (at n nodes)))
 
-  pub over_turn : (x : ResourceData) (number : ℕ) (now after all : List ℕ) → is_tree nodes ≡ true → next_after n nodes ≡ Some x → number ≡ x.number → now ++ numbers_of (filter q (all_after n nodes)) ≡ all → after ≡ now ++ numbers_of (filter q (x ∷ [])) → after ++ numbers_of (filter q (all_after number nodes)) ≡ all
-  over_turn x number now after all tree found same is more =
-      ap (λ k. after ++ numbers_of (filter q (all_after k nodes))) same
-      ∙ ap (λ (ns : List ℕ). ns ++ numbers_of (filter q (all_after x.number nodes))) more
-      ∙ append_assoc now (numbers_of (filter q (x ∷ []))) (numbers_of (filter q (all_after x.number nodes)))
-      ∙ ap (λ (ns : List ℕ). now ++ ns) (first_of x (all_after x.number nodes))
-      ∙ ap (λ (rs : List ResourceData). now ++ numbers_of (filter q rs)) (sym (split_next n nodes x tree found))
+  first_of : (n : ℕ) (ns : List ℕ) → picked_of n ++ picked_at ns ≡ picked_at (n ∷ ns)
+  first_of n ns = by (at n nodes)
+    where
+      by : (o : Option ResourceData) → numbers_of (filter q (option_to_list o)) ++ picked_at ns ≡ numbers_of (filter q (cons_option o (filter_map (λ m. at m nodes) ns)))
+      by None = refl
+      by (Some x) = elim (cases_Bool (q x)) [
+        | inl t ↦ rw t refl
+        | inr f ↦ rw f refl
+      ]
+
+  pub one_picked : (n : ℕ) (x : ResourceData) → at n nodes ≡ Some x → q x ≡ true → picked_of n ≡ n ∷ []
+  one_picked n x found t = rw (found, t) (ap (λ m. m ∷ []) (at_number n nodes x found))
+
+  pub over_turn : (n : ℕ) (ns rest now after all : List ℕ) → ns ≡ n ∷ rest → now ++ picked_at ns ≡ all → after ≡ now ++ picked_of n → after ++ picked_at rest ≡ all
+  over_turn n ns rest now after all split is more =
+      ap (λ (ms : List ℕ). ms ++ picked_at rest) more
+      ∙ append_assoc now (picked_of n) (picked_at rest)
+      ∙ ap (λ (ms : List ℕ). now ++ ms) (first_of n rest)
+      ∙ ap (λ (ms : List ℕ). now ++ picked_at ms) (sym split)
       ∙ is
 
-  none_first : (x : ResourceData) (rest : List ResourceData) → numbers_of (filter q (x ∷ rest)) ≡ [] → numbers_of (filter q (x ∷ [])) ≡ []
-  none_first x rest e = elim (cases_Bool (q x)) [
-    | inl t ↦ absurd (let wrong : x.number ∷ numbers_of (filter q rest) ≡ [] = rw t at e in cc)
-    | inr f ↦ rw f refl
-  ]
+  none_front : (front back : List ℕ) → front ++ back ≡ [] → front ≡ []
+  none_front [] back e = refl
+  none_front (k ∷ front) back e = cc
 
   none_behind : (front back : List ℕ) → front ++ back ≡ [] → back ≡ []
   none_behind [] back e = e
   none_behind (k ∷ front) back e = cc
 
-  pub over_some : (x : ResourceData) (now all : List ℕ) → is_tree nodes ≡ true → next_after n nodes ≡ Some x → now ++ numbers_of (filter q (all_after n nodes)) ≡ all → numbers_of (filter q (x ∷ [])) ≢ [] → all ≢ []
-  over_some x now all tree found is some none =
-      some (none_first x (all_after x.number nodes)
-      (none_behind now (numbers_of (filter q (x ∷ all_after x.number nodes))) (ap (λ (rs : List ResourceData). now ++ numbers_of (filter q rs)) (sym (split_next n nodes x tree found)) ∙ is ∙ none)))
-
-  pub over_end : (now all : List ℕ) → None ≡ next_after n nodes → now ++ numbers_of (filter q (all_after n nodes)) ≡ all → now ≡ all
-  over_end now all none is = sym (ap (λ (rs : List ResourceData). now ++ numbers_of (filter q rs)) (none_left n nodes none) ∙ append-nil now) ∙ is
+  pub over_some : (n : ℕ) (ns rest now all : List ℕ) → ns ≡ n ∷ rest → now ++ picked_at ns ≡ all → picked_of n ≢ [] → all ≢ []
+  over_some n ns rest now all split is some none =
+      some (none_front (picked_of n) (picked_at rest)
+      (none_behind now (picked_of n ++ picked_at rest)
+      (ap (λ (ms : List ℕ). now ++ ms) (first_of n rest) ∙ ap (λ (ms : List ℕ). now ++ picked_at ms) (sym split) ∙ is ∙ none)))
 
 -- ---- the sizes of instances, gone over
+
+split_next : (n : ℕ) (nodes : List ResourceData) (x : ResourceData) → is_tree nodes ≡ true → next_after n nodes ≡ Some x → all_after n nodes ≡ x ∷ all_after x.number nodes
+split_next n nodes x tree found = step_some n nodes (all_after n nodes) x (tree_ascends nodes tree) refl (sym found)
 
 sizes_first : (c : ℕ) (x : ResourceData) (rest : List ResourceData) → sizes_of c (x ∷ rest) ≡ sizes_of c (x ∷ []) + sizes_of c rest
 sizes_first c x rest = elim (cases_Bool (is_kin ContentInstance c x)) [

@@ -32,7 +32,7 @@ equal_back m n apart = ne_eqb n m (λ e. both_ways _ apart (eq-eqb m n (sym e)))
 -- ---- one list of numbers
 
 -- each has the same in both tables
-filter_map_same : {X : Type 0} (f g : ℕ → Option X) (order : List ℕ) → ((q : ℕ) → list_any (nat_eq q) order ≡ true → f q ≡ g q) → filter_map f order ≡ filter_map g order
+pub filter_map_same : {X : Type 0} (f g : ℕ → Option X) (order : List ℕ) → ((q : ℕ) → list_any (nat_eq q) order ≡ true → f q ≡ g q) → filter_map f order ≡ filter_map g order
 filter_map_same f g [] same = refl
 filter_map_same f g (q ∷ order) same =
     let here : f q ≡ g q = same q (or_left _ _ (eq-eqb q q refl)) in

@@ -1,6 +1,6 @@
 //! What is overdue.
-ghost use Rattle.std.specs.Prelude.{◌≡◌, ◌≢◌, ◌++◌, [], ◌∷◌, filter, not, Some, IsTrue};
-ghost use Rattle.std.specs.Prelude.{IfOk, OnOk, OnErr};
+ghost use Rattle.std.specs.Prelude.{◌≡◌, ◌≢◌, ◌++◌, [], ◌∷◌, filter, not, option_to_list, Some};
+ghost use Rattle.std.specs.Prelude.{IsTrue, IfOk, OnOk, OnErr};
 ghost use Rattle.tree_model.specs.Tree as tree;
 ghost use Rattle.tree_model.specs.Tree.{at, has, is_due, is_tree, live, numbers_of};
 
@@ -14,33 +14,31 @@ pub fn overdue_numbers(alloc: Global, store: &Store, moment: u64) -> Result<Vec<
     ensures value { IfOk result (λ v. v.items ≡ tree.overdue_numbers moment store.now) }
     ensures memory { OnErr result (tree.overdue_numbers moment store.now ≢ []) }
 {
-    let mut numbers = Vec::new(alloc);
-    let mut last = 0;
-    while let Some(resource) = store.after(last) {
-        push_if_overdue(&mut numbers, store, resource, moment)?;
-        last = resource.number();
+    let mut overdue = Vec::new(alloc);
+    for number in store.numbers() {
+        push_if_overdue(&mut overdue, store, *number, moment)?;
     }
-    Ok(numbers)
+    Ok(overdue)
 }
 
+// Pushes the number of a resource, where there is one and it is overdue.
 fn push_if_overdue(
-    numbers: &mut Vec<u64>,
+    overdue: &mut Vec<u64>,
     store: &Store,
-    resource: &Resource,
+    number: u64,
     moment: u64,
 ) -> Result<(), OutOfMemory>
-    requires tree { IsTrue (is_tree store.now) }
-    requires stands { at resource.now.number store.now ≡ Some resource.now }
-    ensures ok { OnOk result (numbers.new.items
-        ≡ numbers.old.items
-        ++ numbers_of
-        (filter (λ r. not (has r.number (live moment store.now))) (resource.now ∷ []))) }
+    ensures ok { OnOk result (overdue.new.items ≡ overdue.old.items ++ numbers_of
+        (filter (λ r. not (has r.number (live moment store.now)))
+        (option_to_list (at number store.now)))) }
     ensures memory { OnErr result
         (numbers_of (filter (λ r. not (has r.number (live moment store.now)))
-        (resource.now ∷ [])) ≢ []) }
+        (option_to_list (at number store.now))) ≢ []) }
 {
-    if is_overdue(store, resource, moment) {
-        numbers.push(resource.number())?;
+    if let Some(resource) = store.get(number) {
+        if is_overdue(store, resource, moment) {
+            overdue.push(number)?;
+        }
     }
     Ok(())
 }

@@ -1,6 +1,7 @@
 //! Resources by their numbers.
 ghost use Rattle.std.specs.Prelude.{◌≡◌, ◌<◌, ◌≤◌, ◌+◌, ℕ, [], ◌∷◌, ◌++◌, length, slice_get};
 ghost use Rattle.std.specs.Prelude.{IsTrue, OnOk, OnErr, IfErr, IfSome, Some, option_map};
+ghost use Rattle.std.specs.List.{filter_map};
 ghost use Rattle.m2m_names.specs.Ids.{count_bound};
 ghost use Rattle.m2m_names.specs.Stamps.{last_moment};
 ghost use Rattle.resource_model.specs.Resource.{has_number};
@@ -92,6 +93,13 @@ impl Store {
     {
         let place = place_after(&self.order, number);
         nth_of(&self.resources, &self.order[place..], 0)
+    }
+
+    /// The numbers of the resources in order of creation, among some whose resources have gone.
+    pub(crate) fn numbers(&self) -> &[u64]
+        ensures { filter_map (λ n. at n self.now) result.now ≡ self.now }
+    {
+        &self.order
     }
 
     /// The resource of a number.

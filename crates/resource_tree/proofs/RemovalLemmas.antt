@@ -171,6 +171,22 @@ one_then_others n ns nodes tree =
     ])
     ∙ staying_wider (has_number n) (is_numbered_in (n ∷ ns)) (λ r t. ap (λ b. b || list_any (nat_eq r.number) ns) t) [] [] nodes (λ k there. there)
 
+-- or from the last to the first
+last_too : (m n : ℕ) (ns : List ℕ) → (nat_eq m n || list_any (nat_eq m) ns) ≡ list_any (nat_eq m) (ns ++ n ∷ [])
+last_too m n [] = refl
+last_too m n (k ∷ ns) = elim (cases_Bool (nat_eq m k)) [
+  | inl t ↦ elim (cases_Bool (nat_eq m n)) [
+    | inl u ↦ rw (t, u) refl
+    | inr v ↦ rw (t, v) refl
+  ]
+  | inr f ↦ rw f (last_too m n ns)
+]
+
+pub others_then_one : (n : ℕ) (ns : List ℕ) (nodes : List ResourceData) → is_tree nodes ≡ true → without_all ns (without (has_number n) nodes) ≡ without_all (ns ++ n ∷ []) nodes
+others_then_one n ns nodes tree =
+    one_then_others n ns nodes tree
+    ∙ without_among (is_numbered_in (n ∷ ns)) (is_numbered_in (ns ++ n ∷ [])) nodes tree (λ s found. last_too s.number n ns)
+
 -- ---- what is due goes one after another
 
 -- what stands until a number isn't due

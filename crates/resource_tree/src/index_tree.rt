@@ -144,14 +144,18 @@ impl IndexTree {
         self.list.free_some()
     }
 
+    // Removes the resources of these numbers, the last of them first: what stands behind it has gone
+    // then, so that the table of places lets its last go, and is never gone through.
     fn remove_several(&mut self, numbers: &[u64])
         ensures { self.new ≡ without_all numbers.now self.old }
     {
         if self.len() == 0 {
             return;
         }
-        for number in numbers {
-            self.remove_one(*number);
+        let mut left = numbers;
+        while let Some((last, others)) = left.split_last() {
+            self.remove_one(*last);
+            left = others;
         }
     }
 }

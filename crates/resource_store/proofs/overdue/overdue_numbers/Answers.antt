@@ -1,34 +1,39 @@
-use Rattle.std.proofs.Common.{◌≡◌, ◌<◌, ◌++◌, ap, sym, ◌∙◌, arith, not, Bool, List}
+use Rattle.std.proofs.Common.{◌≡◌, ◌∷◌, ◌++◌, ◌+◌, ℕ, Bool, List, [], drop, get_or, not, sym, ap, ◌∙◌, arith, append-nil}
+use Rattle.std.proofs.lemmas.List.{drop_all, drop_more}
 use Rattle.std.specs.List.{filter}
 use Rattle.m2m_value.proofs.Begins.{on_err}
 use Rattle.resource_model.specs.Resource.{ResourceData}
-use Rattle.tree_model.specs.Tree.{all_after, has, live, numbers_of, overdue_numbers}
-use Rattle.tree_model.proofs.WalkLemmas.{all_after_zero}
-use Rattle.resource_store.proofs.NextLemmas.{next_above, next_stands, over_end, over_some, over_turn}
+use Rattle.tree_model.specs.Tree.{has, live, numbers_of, overdue_numbers}
+use Rattle.resource_store.proofs.NextLemmas.{over_some, over_turn, picked_at}
 use Rattle.resource_store.proofs.overdue.overdue_numbers.Goals as goal
 
-pub loop-resource-init : goal.loop-resource-init
-loop-resource-init c tree =
-    let q : ResourceData → Bool = λ r. not (has r.number (live c.args.moment c.args.store.now)) in
-    ap (λ ns. ns ++ numbers_of (filter q (all_after 0 c.args.store.now))) c.new-numbers.ensures.items
-    ∙ ap (λ (rs : List ResourceData). numbers_of (filter q rs)) (sym (all_after_zero c.args.store.now tree))
+pub loop-number-init : goal.loop-number-init
+loop-number-init c =
+    let goes : ResourceData → Bool = λ r. not (has r.number (live c.args.moment c.args.store.now)) in
+    ap (λ (ns : List ℕ). ns ++ picked_at goes c.args.store.now c.numbers-number-items.result.now) c.new-overdue.ensures.items
+    ∙ ap (λ (rs : List ResourceData). numbers_of (filter goes rs)) c.numbers-number-items.ensures
 
-pub push_if_overdue-requires-clause-stands : goal.push_if_overdue-requires-clause-stands
-push_if_overdue-requires-clause-stands c = next_stands c.loop-resource.last c.args.store.now c.in-Some.resource.now c.in-Some.ensures.tree (sym c.in-Some.ensures.value)
+pub loop-number-preserved : goal.loop-number-preserved
+loop-number-preserved c =
+    let goes : ResourceData → Bool = λ r. not (has r.number (live c.args.moment c.args.store.now)) in
+    let ns : List ℕ = c.numbers-number-items.result.now in
+    let rest : List ℕ = drop (c.loop-number.number-index + 1) ns in
+    let split = drop_more ns c.loop-number.number-index 0 (omega (arith, c.loop-number-test.true)) in
+    over_turn goes c.args.store.now (get_or ns c.loop-number.number-index 0) (drop c.loop-number.number-index ns) rest c.loop-number.overdue.items c.push_if_overdue.new.overdue.items (overdue_numbers c.args.moment c.args.store.now) split c.loop-number.invariant c.in_ok-push_if_overdue.ensures.ok
 
 pub returns-in_err-push_if_overdue-clause-memory : goal.returns-in_err-push_if_overdue-clause-memory
 returns-in_err-push_if_overdue-clause-memory c =
-    on_err c.from_residual.result _ (over_some (λ r. not (has r.number (live c.args.moment c.args.store.now))) c.loop-resource.last c.args.store.now c.in-Some.resource.now c.loop-resource.numbers.items (overdue_numbers c.args.moment c.args.store.now) c.in-Some.ensures.tree (sym c.in-Some.ensures.value) (c.loop-resource.invariant c.in-Some.ensures.tree) c.in_err-push_if_overdue.ensures.memory)
-
-pub loop-resource-smaller : goal.loop-resource-smaller
-loop-resource-smaller c =
-    let above : c.loop-resource.last < c.in-Some.resource.now.number = next_above c.loop-resource.last c.args.store.now c.in-Some.resource.now (sym c.in-Some.ensures.value) in
-    omega (arith, above, c.number-last.ensures.value, c.number-last.ensures.count)
-
-pub loop-resource-preserved : goal.loop-resource-preserved
-loop-resource-preserved c tree =
-    over_turn (λ r. not (has r.number (live c.args.moment c.args.store.now))) c.loop-resource.last c.args.store.now c.in-Some.resource.now c.number-last.result c.loop-resource.numbers.items c.push_if_overdue.new.numbers.items (overdue_numbers c.args.moment c.args.store.now) tree (sym c.in-Some.ensures.value) c.number-last.ensures.value (c.loop-resource.invariant tree) c.in_ok-push_if_overdue.ensures.ok
+    let goes : ResourceData → Bool = λ r. not (has r.number (live c.args.moment c.args.store.now)) in
+    let ns : List ℕ = c.numbers-number-items.result.now in
+    let rest : List ℕ = drop (c.loop-number.number-index + 1) ns in
+    let split = drop_more ns c.loop-number.number-index 0 (omega (arith, c.loop-number-test.true)) in
+    on_err c.from_residual.result _ (over_some goes c.args.store.now (get_or ns c.loop-number.number-index 0) (drop c.loop-number.number-index ns) rest c.loop-number.overdue.items (overdue_numbers c.args.moment c.args.store.now) split c.loop-number.invariant c.in_err-push_if_overdue.ensures.memory)
 
 pub returns-clause-value : goal.returns-clause-value
 returns-clause-value c =
-    over_end (λ r. not (has r.number (live c.args.moment c.args.store.now))) c.loop-resource.last c.args.store.now c.loop-resource.numbers.items (overdue_numbers c.args.moment c.args.store.now) c.in_default.ensures.value (c.loop-resource.invariant c.in_default.ensures.tree)
+    let goes : ResourceData → Bool = λ r. not (has r.number (live c.args.moment c.args.store.now)) in
+    let ns : List ℕ = c.numbers-number-items.result.now in
+    let none : drop c.loop-number.number-index ns ≡ [] = drop_all c.loop-number.number-index ns (omega (arith, c.loop-number-test.false)) in
+    sym (append-nil c.loop-number.overdue.items)
+    ∙ ap (λ (ms : List ℕ). c.loop-number.overdue.items ++ picked_at goes c.args.store.now ms) (sym none)
+    ∙ c.loop-number.invariant
