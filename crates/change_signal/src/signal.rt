@@ -4,8 +4,12 @@ use std::sync::atomic::{AtomicU64, Ordering};
 use std::thread::Parker;
 use std::time::Duration;
 
-/// No wait is longer than so many milliseconds.
+/// No wait is longer than so many milliseconds, its rest aside.
 const LONGEST_WAIT: u64 = 100;
+
+/// Who waits rests for so many microseconds first: what is signalled meanwhile ends the wait behind
+/// them, and takes no call of the system.
+const REST: u64 = 200;
 
 /// A signal that something may have changed. One thread waits at it, and others give it.
 #[derive(Drop)]
@@ -32,6 +36,7 @@ impl ChangeSignal {
     /// Says that nobody asks any more, and ends the wait at once.
     pub fn end(&self) {
         self.ended.store(1, Ordering::SeqCst);
+        self.ended.wake_one();
         self.waiting.unpark();
     }
 
@@ -41,6 +46,7 @@ impl ChangeSignal {
         if self.ended.load(Ordering::SeqCst) > 0 {
             return false;
         }
+        self.ended.park_timeout(rt, 0, Duration::from_micros(REST));
         self.waiting
             .park_timeout(rt, Duration::from_millis(LONGEST_WAIT));
         self.ended.load(Ordering::SeqCst) == 0

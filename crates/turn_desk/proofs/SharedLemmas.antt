@@ -15,7 +15,7 @@ use Rattle.turn_desk.specs.Joins.{Runs-append}
 use Rattle.std.specs.declared.snapshot.Snapshot.{Snapshot}
 use Rattle.turn_desk.specs.declared.view.View.{View}
 use Rattle.turn_desk.specs.declared.view.Held.{Held}
-use Rattle.turn_desk.specs.Shared.{Begins, AreInLine, longer, times, total, Fits, IsAtHome, IsTaken, AreApart, AreOwned, Weighed, AddUp, Kept, Leaves, newcomer, spent, halved, sibling, joined_view, with_ticket, with_entry, Draws, TakesTurn, Looks, Passes, TellsOneLog, HasTurn, IsIdle, IsWaiting, IsServed, OwnsAll, AreJoined, SamePart, IsWhole, own_places, Grows}
+use Rattle.turn_desk.specs.Shared.{Begins, AreInLine, longer, times, total, Fits, IsAtHome, IsTaken, AreApart, AreOwned, Weighed, AddUp, Kept, Leaves, newcomer, spent, halved, sibling, joined_view, with_ticket, with_entry, Draws, TakesTurn, Looks, Passes, TellsOneLog, HasObject, HasStepped, IsIdle, IsWaiting, IsServed, OwnsAll, AreJoined, SamePart, IsWhole, own_places, Grows}
 
 -- ---- sums
 
@@ -899,56 +899,61 @@ module _ {X E R : Type 0} (step : ℕ → E → X → R → X → Type 0) where
   in_hand d [] = d
   in_hand d (x ∷ xs) = x.1
 
-  taken_is : (a b : Held X E R) (hand : List (ℕ × Held X E R)) → hand ≡ (0, a) ∷ [] → hand ≡ (0, b) ∷ rest hand → a ≡ b
-  taken_is a b hand p q = ap (in_hand a) (sym p ∙ q)
-
-  -- the object is taken out of the slot
-  pub has-turn : (before looked after : Me (Held X E R) (View X E R)) (result empty : Held X E R) (object : X)
-      → TakesTurn step before looked → looked.1 ≡ (0, result) ∷ rest looked.1
-      → after ≡ (looked.0, (0, empty) ∷ rest looked.1) → result.object ≡ Some object → empty.object ≡ None
-      → HasTurn step before after object
-  has-turn before looked after result empty object t out put is none =
-      let same : t.held ≡ result = taken_is t.held result looked.1 t.hand out in
-      let q : Some t.object ≡ Some object = sym t.there ∙ ap (λ (h : Held X E R). h.object) same ∙ is in
-      let o : t.object ≡ object = cc in
-      record {
-        others = t.others;
-        empty = empty;
-        view = ap (λ (m : Me (Held X E R) (View X E R)). m.0) put ∙ t.view;
-        hand = ap (λ (m : Me (Held X E R) (View X E R)). m.1) put ∙ ap (λ l. (0, empty) ∷ rest l) t.hand;
-        vacant = none;
-        leaves = λ opening po. subst (λ x. Leaves step opening (before.0.seen ++ t.others) x) o (t.leaves opening po);
-      }
+  -- the object that lies in the slot is the one that is found there
+  pub object_is : (held : Held X E R) (found object : X) (me : Me (Held X E R) (View X E R))
+      → me.1 ≡ (0, held) ∷ rest me.1 → held.object ≡ Some found → HasObject me object → object ≡ found
+  object_is held found object me out is h =
+      let same : h.0 ≡ held = ap (in_hand held) (sym h.1 ∙ out) in
+      let q : Some object ≡ Some found = sym h.2 ∙ ap (λ (x : Held X E R). x.object) same ∙ is in cc
 
   -- what the object left after its turn is left by one entry more
-  pub took : (before after : Me (Held X E R) (View X E R)) (object new : X) (e : Entry E R)
-      → HasTurn step before after object → step e.reading e.event object e.outcome new
-      → (opening : X) → after.0.opening ≡ Some opening → Leaves step opening (after.0.seen ++ e ∷ []) new
-  took before after object new e h st opening =
-      subst (λ (v : View X E R). v.opening ≡ Some opening → Leaves step opening (v.seen ++ e ∷ []) new) (sym h.view)
-      (λ po. leaves-one step opening object new (before.0.seen ++ h.others) e (h.leaves opening po) st)
+  pub took : (before after turned : Me (Held X E R) (View X E R)) (e : Entry E R) (new : X)
+      → (t : TakesTurn step before after) → turned.0 ≡ after.0 → step e.reading e.event t.object e.outcome new
+      → (opening : X) → turned.0.opening ≡ Some opening → Leaves step opening (turned.0.seen ++ e ∷ []) new
+  took before after turned e new t same st opening =
+      subst (λ (v : View X E R). v.opening ≡ Some opening → Leaves step opening (v.seen ++ e ∷ []) new) (sym (same ∙ t.view))
+      (λ po. leaves-one step opening t.object new (before.0.seen ++ t.others) e (t.leaves opening po) st)
+
+  -- the seat that is to pass the turn on
+  pub served : (ticket : ℕ) (v : View X E R) (drawn taken turned : Me (Held X E R) (View X E R)) (e : Entry E R) (hand : List (ℕ × Held X E R))
+      → ticket + 1 < 2 ^ 64 → v.share ≢ 0 → drawn ≡ (with_ticket ticket v, hand) → (t : TakesTurn step drawn taken) → turned.0 ≡ taken.0
+      → HasStepped step t.object e turned → IsServed step turned ticket e
+  served ticket v drawn taken turned e hand small part d t same s =
+      let w : turned.0 ≡ record (with_ticket ticket v) { seen = v.seen ++ t.others; turn = true } =
+      same ∙ t.view ∙ ap (λ (m : Me (Held X E R) (View X E R)). record m.0 { seen = m.0.seen ++ t.others; turn = true }) d in
+      record {
+        object = s.object;
+        told = s.told;
+        drawn = ap (λ (u : View X E R). u.ticket) w;
+        small = small;
+        turn = ap (λ (u : View X E R). u.turn) w;
+        part = λ z. part (sym (ap (λ (u : View X E R). u.share) w) ∙ z);
+        hand = s.hand;
+        tells = s.tells;
+        leaves = took drawn taken turned e s.object t same s.steps;
+      }
 
   -- the seat after a question, by its steps
-  passed : (t : ℕ) (v : View X E R) (drawn taken after : Me (Held X E R) (View X E R)) (object : X) (e : Entry E R) (hand : List (ℕ × Held X E R))
-      → drawn ≡ (with_ticket t v, hand) → (h : HasTurn step drawn taken object) → after ≡ (with_entry e taken.0, [])
-      → after ≡ (with_entry e (record (with_ticket t v) { seen = v.seen ++ h.others; turn = true }), [])
-  passed t v drawn taken after object e hand d h p =
-      p ∙ ap (λ u. (with_entry e u, [])) (h.view
-      ∙ ap (λ (m : Me (Held X E R) (View X E R)). record m.0 { seen = m.0.seen ++ h.others; turn = true }) d)
+  passed : (ticket : ℕ) (v : View X E R) (drawn taken turned after : Me (Held X E R) (View X E R)) (e : Entry E R) (hand : List (ℕ × Held X E R))
+      → drawn ≡ (with_ticket ticket v, hand) → (t : TakesTurn step drawn taken) → turned.0 ≡ taken.0 → after ≡ (with_entry e turned.0, [])
+      → after ≡ (with_entry e (record (with_ticket ticket v) { seen = v.seen ++ t.others; turn = true }), [])
+  passed ticket v drawn taken turned after e hand d t same p =
+      p ∙ ap (λ u. (with_entry e u, [])) (same ∙ t.view
+      ∙ ap (λ (m : Me (Held X E R) (View X E R)). record m.0 { seen = m.0.seen ++ t.others; turn = true }) d)
 
-  pub idle-asked : (t : ℕ) (me drawn taken after : Me (Held X E R) (View X E R)) (object new : X) (e : Entry E R)
-      → IsIdle step me → drawn ≡ (with_ticket t me.0, me.1) → HasTurn step drawn taken object
-      → after ≡ (with_entry e taken.0, []) → step e.reading e.event object e.outcome new → IsIdle step after
-  idle-asked t me drawn taken after object new e i d h p st =
-      let q = passed t me.0 drawn taken after object e me.1 d h p in
-      let l : Leaves step i.opening (drawn.0.seen ++ h.others) object =
-      h.leaves i.opening (ap (λ (m : Me (Held X E R) (View X E R)). m.0.opening) d ∙ i.opened) in
+  pub idle-asked : (ticket : ℕ) (me drawn taken turned after : Me (Held X E R) (View X E R)) (new : X) (e : Entry E R)
+      → IsIdle step me → drawn ≡ (with_ticket ticket me.0, me.1) → (t : TakesTurn step drawn taken) → turned.0 ≡ taken.0
+      → after ≡ (with_entry e turned.0, []) → step e.reading e.event t.object e.outcome new → IsIdle step after
+  idle-asked ticket me drawn taken turned after new e i d t same p st =
+      let q = passed ticket me.0 drawn taken turned after e me.1 d t same p in
+      let l : Leaves step i.opening (drawn.0.seen ++ t.others) t.object =
+      t.leaves i.opening (ap (λ (m : Me (Held X E R) (View X E R)). m.0.opening) d ∙ i.opened) in
       subst (IsIdle step) (sym q) (record {
         opening = i.opening;
         object = new;
         opened = i.opened;
-        legal = leaves-one step i.opening object new (me.0.seen ++ h.others) e
-            (subst (λ (m : Me (Held X E R) (View X E R)). Leaves step i.opening (m.0.seen ++ h.others) object) d l) st;
+        legal = leaves-one step i.opening t.object new (me.0.seen ++ t.others) e
+            (subst (λ (m : Me (Held X E R) (View X E R)). Leaves step i.opening (m.0.seen ++ t.others) t.object) d l) st;
         part = i.part;
         whole = i.whole;
         ticket = refl;
@@ -958,14 +963,14 @@ module _ {X E R : Type 0} (step : ℕ → E → X → R → X → Type 0) where
         hand = refl;
       })
 
-  pub asks : (t : ℕ) (me drawn taken after : Me (Held X E R) (View X E R)) (object : X) (e : Entry E R)
-      → drawn ≡ (with_ticket t me.0, me.1) → HasTurn step drawn taken object → after ≡ (with_entry e taken.0, [])
+  pub asks : (ticket : ℕ) (me drawn taken turned after : Me (Held X E R) (View X E R)) (e : Entry E R)
+      → drawn ≡ (with_ticket ticket me.0, me.1) → (t : TakesTurn step drawn taken) → turned.0 ≡ taken.0 → after ≡ (with_entry e turned.0, [])
       → (others : List (Entry E R)) × Grows me.0 (map as_others others ++ as_own e ∷ []) after.0
-  asks t me drawn taken after object e d h p =
-      let q = passed t me.0 drawn taken after object e me.1 d h p in (
-        h.others,
-        subst (λ (m : Me (Held X E R) (View X E R)). Grows me.0 (map as_others h.others ++ as_own e ∷ []) m.0) (sym q)
-            (grows-asked me.0 t h.others e),
+  asks ticket me drawn taken turned after e d t same p =
+      let q = passed ticket me.0 drawn taken turned after e me.1 d t same p in (
+        t.others,
+        subst (λ (m : Me (Held X E R) (View X E R)). Grows me.0 (map as_others t.others ++ as_own e ∷ []) m.0) (sym q)
+            (grows-asked me.0 ticket t.others e),
       )
 
 module _ {X E R : Type 0} where

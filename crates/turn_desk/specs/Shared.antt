@@ -212,16 +212,18 @@ module _ {X E R : Type 0} where
     pub legal : (opening : X) → before.0.opening ≡ Some opening
         → (object : X) × Leaves step opening before.0.seen object
 
-  -- The seat has the turn, and its caller the object.
-  pub record HasTurn (step : ℕ → E → X → R → X
-      → Type 0) (before after : Me (Held X E R) (View X E R)) (object : X) : Type 0 where
-    pub others : List (Entry E R)
-    pub empty : Held X E R
-    pub view : after.0 ≡ record before.0 { seen = before.0.seen ++ others; turn = true }
-    pub hand : after.1 ≡ (0, empty) ∷ []
-    pub vacant : empty.object ≡ None
-    pub leaves : (opening : X) → before.0.opening ≡ Some opening
-        → Leaves step opening (before.0.seen ++ others) object
+  -- the object lies in the slot that the seat has
+  abbrev pub HasObject : Me (Held X E R) (View X E R) → X → Type 0
+  HasObject me object = (held : Held X E R) × (me.1 ≡ (0, held) ∷ []) × (held.object ≡ Some object)
+
+  -- the object took the step that the entry tells, and lies in the slot with the entry
+  pub record HasStepped (step : ℕ → E → X → R → X
+      → Type 0) (before : X) (e : Entry E R) (me : Me (Held X E R) (View X E R)) : Type 0 where
+    pub object : X
+    pub told : Snapshot (Entry E R)
+    pub steps : step e.reading e.event before e.outcome object
+    pub hand : me.1 ≡ (0, record { object = Some object; entry = Some told }) ∷ []
+    pub tells : told.value ≡ e
 
   -- The seat has a part of the desk and stands between two questions; what it has seen is a history
   -- of the object.
@@ -270,15 +272,20 @@ module _ {X E R : Type 0} where
     pub part : me.0.share ≢ 0
     pub hand : me.1 ≡ []
 
-  -- The seat's ticket is served, and its caller has the object.
-  pub record IsServed (me : Me (Held X E R) (View X E R)) (ticket : ℕ) : Type 0 where
-    pub empty : Held X E R
+  -- The seat's ticket is served. It has the slot, in which the object lies as this entry leaves it,
+  -- with the entry.
+  pub record IsServed (step : ℕ → E → X → R → X
+      → Type 0) (me : Me (Held X E R) (View X E R)) (ticket : ℕ) (e : Entry E R) : Type 0 where
+    pub object : X
+    pub told : Snapshot (Entry E R)
     pub drawn : me.0.ticket ≡ Some ticket
     pub small : ticket + 1 < 2 ^ 64
     pub turn : me.0.turn ≡ true
     pub part : me.0.share ≢ 0
-    pub hand : me.1 ≡ (0, empty) ∷ []
-    pub vacant : empty.object ≡ None
+    pub hand : me.1 ≡ (0, record { object = Some object; entry = Some told }) ∷ []
+    pub tells : told.value ≡ e
+    pub leaves : (opening : X) → me.0.opening ≡ Some opening
+        → Leaves step opening (me.0.seen ++ e ∷ []) object
 
   -- ---- how a seat grows
 

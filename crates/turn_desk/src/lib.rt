@@ -33,6 +33,7 @@ mod laws;
 mod object;
 mod own;
 mod shared;
+mod turnstile;
 mod view;
 
 pub use desk::Desk;

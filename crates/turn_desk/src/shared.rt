@@ -3,17 +3,20 @@ ghost use Rattle.std.specs.Prelude.{◌≡◌, ℕ, ◌<◌, ◌≤◌, ◌+◌,
 ghost use Rattle.std.specs.Prelude.{IfOk, IfErr};
 ghost use Rattle.turn_desk.specs.Shared as spec;
 ghost use Rattle.turn_desk.specs.Seats.{IsSeated, known_to};
-ghost use Rattle.turn_desk.specs.Shared.{Kept, newcomer, HasOnly, HasTurn, IsIdle, with_ticket};
+ghost use Rattle.turn_desk.specs.Entries.{entry_of};
+ghost use Rattle.turn_desk.specs.Shared.{HasObject, HasStepped, TakesTurn};
+ghost use Rattle.turn_desk.specs.Shared.{Kept, newcomer, HasOnly, IsIdle, with_ticket};
 ghost use Rattle.turn_desk.specs.Shared.{with_entry, Leaves, IsWaiting, IsServed, Grows, halved};
 ghost use Rattle.turn_desk.specs.Shared.{sibling, AreJoined, IsWhole, OwnsAll};
 
 use super::{Desk, Entry, Object, View};
+use crate::turnstile::Turnstile;
 use crate::view::Held;
 use atomic_table::{Join, Play, Refused, Seat, Split, Table, TableRule};
 use std::alloc::{AllocError as OutOfMemory, Global};
 use std::marker::PhantomData;
 use std::snapshot::Snapshot;
-use std::sync::{Mutex, Wait};
+use std::sync::Wait;
 
 type Slot<O> = Held<O, <O as Object>::Event, <O as Object>::Outcome>;
 
@@ -77,7 +80,7 @@ impl<O: Object> Join<Knows<O>> for Add {
 /// A desk at which several seats ask one object, one after another.
 pub struct TurnDesk<O: Object, R> {
     table: Table<Slot<O>, Knows<O>, Snapshot<O>, Turns<O>, Global>,
-    queue: Mutex<()>,
+    queue: Turnstile,
     rt: R,
     ghost sized: { (table.shared.table_id.words ≡ 2) × (table.shared.table_id.slots ≡ 1) },
 }
@@ -113,24 +116,18 @@ impl<O: Object, R: Wait> TurnDesk<O, R> {
 }
 
 impl<O: Object, R: Wait> TurnDesk<O, R> {
-    // Waits until the ticket is served, and takes the object.
-    fn take(&self, seat: &mut DeskSeat<O>, ticket: u64) -> O
+    // Waits until the ticket is served. The object lies in the slot then, and the seat has the slot.
+    fn await_turn(&self, seat: &mut DeskSeat<O>, ticket: u64)
         requires desk { seat.old.seat.table_id ≡ self.now.table.shared.table_id }
         requires drawn { IsWaiting seat.old.seat.me ticket }
         ensures desk { seat.new.seat.table_id ≡ self.now.table.shared.table_id }
-        ensures turn { HasTurn O.step seat.old.seat.me seat.new.seat.me result }
+        ensures turn { TakesTurn O.step seat.old.seat.me seat.new.seat.me }
     {
         let shared = &self.table.shared;
         for _ in self.rt.forever() {
             let served = shared.load::<Look<O>>(&mut seat.seat, 1);
             if served == ticket {
-                let empty = Held {
-                    object: None,
-                    entry: None,
-                };
-                let Held { object, entry: _ } = shared.exchange(&mut seat.seat, 0, empty);
-                let Some(object) = object else { unreachable!() };
-                return object;
+                return;
             }
         }
         unreachable!()
@@ -138,28 +135,43 @@ impl<O: Object, R: Wait> TurnDesk<O, R> {
 }
 
 impl<O: Object, R> TurnDesk<O, R> {
-    // Puts the object back, and passes the turn on with the entry.
-    fn pass(
+    // Has the object take its turn where it lies, and puts the entry beside it.
+    fn take_turn(
         &self,
         seat: &mut DeskSeat<O>,
-        ticket: u64,
-        object: O,
-        entry: Snapshot<Entry<O::Event, O::Outcome>>,
-    )
+        reading: u64,
+        event: O::Event,
+    ) -> Entry<O::Event, O::Outcome>
         requires desk { seat.old.seat.table_id ≡ self.now.table.shared.table_id }
-        requires turn { IsServed seat.old.seat.me ticket }
-        requires leaves { (opening : O) → seat.old.seat.me.0.opening ≡ Some opening
-            → Leaves O.step opening (seat.old.seat.me.0.seen ++ entry.value ∷ []) object }
+        requires there { (object : O) × HasObject seat.old.seat.me object }
         ensures desk { seat.new.seat.table_id ≡ self.now.table.shared.table_id }
-        ensures passed { seat.new.seat.me ≡ (with_entry entry.value seat.old.seat.me.0, []) }
+        ensures view { seat.new.seat.me.0 ≡ seat.old.seat.me.0 }
+        ensures entry { result ≡ entry_of reading event result.outcome }
+        ensures steps { (object : O) → HasObject seat.old.seat.me object
+            → HasStepped O.step object result seat.new.seat.me }
+    {
+        let held = seat.seat.slot_mut(&self.table.shared, 0);
+        let Some(object) = &mut held.object else {
+            unreachable!()
+        };
+        let outcome = object.turn(reading, &event);
+        let entry = Entry {
+            reading,
+            event,
+            outcome,
+        };
+        held.entry = Some(Snapshot::of(&entry));
+        entry
+    }
+
+    // Passes the turn on, with the entry that lies beside the object.
+    fn pass(&self, seat: &mut DeskSeat<O>, ticket: u64, entry: &Entry<O::Event, O::Outcome>)
+        requires desk { seat.old.seat.table_id ≡ self.now.table.shared.table_id }
+        requires turn { IsServed O.step seat.old.seat.me ticket entry.now }
+        ensures desk { seat.new.seat.table_id ≡ self.now.table.shared.table_id }
+        ensures passed { seat.new.seat.me ≡ (with_entry entry.now seat.old.seat.me.0, []) }
     {
         let shared = &self.table.shared;
-        let held = Held {
-            object: Some(object),
-            entry: Some(entry),
-        };
-        let Held { object, entry: _ } = shared.exchange(&mut seat.seat, 0, held);
-        let None = object else { unreachable!() };
         shared.store::<Pass>(&mut seat.seat, 1, ticket + 1);
     }
 }
@@ -183,16 +195,12 @@ impl<O: Object, R: Wait> Desk for TurnDesk<O, R> {
         grows-on (known_to before) (known_to between) (known_to after) more later };
 
     fn ask(&self, seat: &mut DeskSeat<O>, reading: u64, event: O::Event) -> O::Outcome {
-        let _queue = self.queue.lock(&self.rt);
+        self.queue.enter(&self.rt);
         let ticket = self.draw(seat);
-        let mut object = self.take(seat, ticket);
-        let outcome = object.turn(reading, &event);
-        let entry = Entry {
-            reading,
-            event,
-            outcome,
-        };
-        self.pass(seat, ticket, object, Snapshot::of(&entry));
+        self.await_turn(seat, ticket);
+        let entry = self.take_turn(seat, reading, event);
+        self.pass(seat, ticket, &entry);
+        self.queue.leave(&self.rt);
         entry.outcome
     }
 }
@@ -232,7 +240,7 @@ impl<O: Object, R: Drop> TurnDesk<O, R> {
         });
         match Table::new(alloc, &[0, 0], slots, &key) {
             Ok((table, seat)) => {
-                let queue = Mutex::new(());
+                let queue = Turnstile::new();
                 Ok((TurnDesk { table, queue, rt }, DeskSeat { seat }))
             }
             Err(Refused { slots }) => Err((object_in(slots), OutOfMemory)),
