@@ -4,6 +4,8 @@ pub mod NextLemmas
 pub mod ClosingLemmas
 pub mod RequestLemmas
 pub mod PutLemmas
+pub mod TogetherLemmas
+pub mod StandLemmas
 pub mod SendingLemmas
 pub mod TurnLemmas
 pub mod SideLemmas

@@ -1,7 +1,8 @@
 -- The talk of frames that are joined.
-use Rattle.std.proofs.Common.{◌≡◌, ℕ, ◌+◌, Bool, true, false, List, [], ◌∷◌, ◌++◌, length, Option, Some, None, IfSome, IsTrue, cond, inl, inr, refl, sym, ap, subst, ◌∙◌, arith, append_assoc, append-nil, length-append}
+use Rattle.std.proofs.Common.{◌≡◌, ℕ, ◌+◌, Bool, true, false, List, [], ◌∷◌, ◌++◌, length, Option, Some, None, IfSome, IsTrue, cond, inl, inr, refl, sym, ap, subst, ◌∙◌, arith, append_assoc, append-nil}
 use Rattle.std.proofs.lemmas.Bool.{cases_Bool, true≢false}
-use Rattle.std.specs.List.{cons_option}
+use Rattle.std.specs.List.{cons_option, flat_map}
+use Rattle.std.proofs.lemmas.Grind.{flat_map-append}
 use Rattle.std.proofs.lemmas.List.Elements.{filter_map-append}
 use Rattle.primitive_json.specs.declared.request.RequestParts.{RequestParts}
 use Rattle.http_frames.specs.declared.frame.Frame.{Frame}
@@ -9,7 +10,8 @@ use Rattle.http_binding.specs.Replying.{reply_text}
 use Rattle.primitive_json.specs.declared.reply.ReplyParts.{ReplyParts}
 use Rattle.cse_server.specs.Closing.{closes}
 use Rattle.m2m_value.specs.Sound.{IsSound}
-use Rattle.cse_server.specs.Talk.{SaySound, request_in, requests_in, reply_for, replies_behind, reply_texts, last_reply, talk, before_last, talk_before_last, talk_length, some_closes, ends_at_close}
+use Rattle.cse_server.specs.Talk.{SaySound, request_in, requests_in, reply_for, replies_behind, reply_texts, last_reply, talk, talk_texts, texts_to, some_closes, ends_at_close}
+use Rattle.cse_server.specs.Connection.{itself}
 
 -- ---- places
 
@@ -83,10 +85,46 @@ reply_texts-append (x ∷ xs) ys place rs more stays same =
     rw (first_open x xs place stays, reply_same x r (requests_in xs) rs more same, behind_append r (requests_in xs) rs more same)
     (ap (λ v. text ++ v) (rest ∙ ap (λ n. reply_texts xs (place + 1) left ++ reply_texts ys n more) (next_place xs x place)) ∙ sym (append_assoc text (reply_texts xs (place + 1) left) (reply_texts ys (place + length (x ∷ xs)) more)))
 
-pub talk-append : (xs ys : List Frame) (place : ℕ) (refused : Bool) (rs more : List ReplyParts) → some_closes xs place ≡ false → length rs ≡ length (requests_in xs) → talk place (xs ++ ys) refused (rs ++ more) ≡ reply_texts xs place rs ++ talk (place + length xs) ys refused more
-talk-append xs ys place refused rs more stays same =
-    ap (λ v. v ++ cond refused last_reply []) (reply_texts-append xs ys place rs more stays same)
-    ∙ append_assoc (reply_texts xs place rs) (reply_texts ys (place + length xs) more) (cond refused last_reply [])
+pub texts_to-append : (xs ys : List Frame) (place : ℕ) (rs more : List ReplyParts) → some_closes xs place ≡ false → length rs ≡ length (requests_in xs) → texts_to (xs ++ ys) place (rs ++ more) ≡ texts_to xs place rs ++ texts_to ys (place + length xs) more
+texts_to-append [] ys place [] more stays same = ap (λ n. texts_to ys n more) (no_place place)
+texts_to-append [] ys place (o ∷ rs) more stays same = absurd (some_left o rs same)
+texts_to-append (x ∷ xs) ys place rs more stays same =
+    let r = request_in x in
+    let left = replies_behind r rs in
+    let text = reply_text (reply_for x r rs) false in
+    let again : length left ≡ length (requests_in xs) = behind_length r (requests_in xs) rs same in
+    let rest = texts_to-append xs ys (place + 1) left more (rest_open x xs place stays) again in
+    rw (first_open x xs place stays, reply_same x r (requests_in xs) rs more same, behind_append r (requests_in xs) rs more same)
+    (ap (λ v. text ∷ v) (rest ∙ ap (λ n. texts_to xs (place + 1) left ++ texts_to ys n more) (next_place xs x place)))
+
+pub talk_texts-append : (xs ys : List Frame) (place : ℕ) (refused : Bool) (rs more : List ReplyParts) → some_closes xs place ≡ false → length rs ≡ length (requests_in xs) → talk_texts place (xs ++ ys) refused (rs ++ more) ≡ texts_to xs place rs ++ talk_texts (place + length xs) ys refused more
+talk_texts-append xs ys place refused rs more stays same =
+    ap (λ v. v ++ cond refused (last_reply ∷ []) []) (texts_to-append xs ys place rs more stays same)
+    ∙ append_assoc (texts_to xs place rs) (texts_to ys (place + length xs) more) (cond refused (last_reply ∷ []) [])
+
+-- the text that is said to one frame
+pub texts_to-one : (frame : Frame) (place : ℕ) (rs : List ReplyParts) → texts_to (frame ∷ []) place rs ≡ reply_text (reply_for frame (request_in frame) rs) (closes place frame) ∷ []
+texts_to-one frame place rs = elim (cases_Bool (closes place frame)) [
+  | inl t ↦ rw t refl
+  | inr f ↦ rw f refl
+]
+
+-- the texts are all that is said
+texts_said : (xs : List Frame) (place : ℕ) (rs : List ReplyParts) → flat_map itself (texts_to xs place rs) ≡ reply_texts xs place rs
+texts_said [] place rs = refl
+texts_said (x ∷ xs) place rs = elim (cases_Bool (closes place x)) [
+  | inl t ↦ rw t refl
+  | inr f ↦ rw f (ap (λ v. reply_text (reply_for x (request_in x) rs) false ++ v) (texts_said xs (place + 1) (replies_behind (request_in x) rs)))
+]
+
+last_said : (refused : Bool) → flat_map itself (cond refused (last_reply ∷ []) []) ≡ cond refused last_reply []
+last_said true = append-nil last_reply
+last_said false = refl
+
+pub talk_said : (place : ℕ) (xs : List Frame) (refused : Bool) (rs : List ReplyParts) → flat_map itself (talk_texts place xs refused rs) ≡ talk place xs refused rs
+talk_said place xs refused rs =
+    flat_map-append itself (texts_to xs place rs) (cond refused (last_reply ∷ []) [])
+    ∙ (λ i. texts_said xs place rs i ++ last_said refused i)
 
 -- what is said to frames is sound, and then what is said to others
 pub SaySound-append : (xs ys : List Frame) (rs more : List ReplyParts) → length rs ≡ length (requests_in xs) → SaySound xs rs → SaySound ys more → SaySound (xs ++ ys) (rs ++ more)
@@ -100,54 +138,3 @@ SaySound-append (x ∷ xs) ys rs more same first then =
       subst (λ (v : List ReplyParts). SaySound (xs ++ ys) v) (sym (behind_append r (requests_in xs) rs more same))
           (SaySound-append xs ys left more again first.1 then),
     )
-
--- ---- all but what is said last
-
-before_last-append : (xs : List Frame) (y : Frame) (ys : List Frame) → before_last (xs ++ y ∷ ys) ≡ xs ++ before_last (y ∷ ys)
-before_last-append [] y ys = refl
-before_last-append (x ∷ []) y ys = refl
-before_last-append (x ∷ next ∷ xs) y ys = ap (λ v. x ∷ v) (before_last-append (next ∷ xs) y ys)
-
--- the replies to all frames but the last, and then the one to that
-reply_texts-last : (xs : List Frame) (place : ℕ) (rs : List ReplyParts) → (last : List ℕ) × (reply_texts xs place rs ≡ reply_texts (before_last xs) place rs ++ last)
-reply_texts-last [] place rs = ([], refl)
-reply_texts-last (x ∷ []) place rs = (reply_texts (x ∷ []) place rs, refl)
-reply_texts-last (x ∷ next ∷ xs) place rs = elim (cases_Bool (closes place x)) [
-  | inl t ↦ ([], rw t (sym (append-nil _)))
-  | inr f ↦
-      let rest = reply_texts-last (next ∷ xs) (place + 1) (replies_behind (request_in x) rs) in
-      (rest.0, rw f (ap (λ v. reply_text (reply_for x (request_in x) rs) false ++ v) rest.1 ∙ sym (append_assoc (reply_text (reply_for x (request_in x) rs) false) (reply_texts (before_last (next ∷ xs)) (place + 1) (replies_behind (request_in x) rs)) rest.0)))
-]
-
--- Frames that were answered, and then all but what is said last of others: it is all but what is said last of both, and
--- perhaps more.
-pub before_last-joined : (xs ys : List Frame) (place : ℕ) (refused : Bool) (rs more : List ReplyParts) → some_closes xs place ≡ false → length rs ≡ length (requests_in xs)
-    → (last : List ℕ) × (reply_texts xs place rs ++ talk_before_last (place + length xs) ys refused more ≡ talk_before_last place (xs ++ ys) refused (rs ++ more) ++ last)
-before_last-joined xs ys place true rs more stays same =
-    ([], sym (reply_texts-append xs ys place rs more stays same) ∙ sym (append-nil _))
-before_last-joined xs [] place false rs more stays same =
-    let last = reply_texts-last (xs ++ []) place (rs ++ more) in
-    (last.0, sym (reply_texts-append xs [] place rs more stays same) ∙ last.1)
-before_last-joined xs (y ∷ ys) place false rs more stays same = (
-  [],
-  sym (reply_texts-append xs (before_last (y ∷ ys)) place rs more stays same)
-      ∙ ap (λ fs. reply_texts fs place (rs ++ more)) (sym (before_last-append xs y ys)) ∙ sym (append-nil _),
-)
-
--- where something is said last, nothing more
-pub before_last-whole : (xs ys : List Frame) (place : ℕ) (refused : Bool) (rs more : List ReplyParts) → some_closes xs place ≡ false → length rs ≡ length (requests_in xs)
-    → (k : ℕ) → k + 1 ≡ talk_length ys refused
-    → reply_texts xs place rs ++ talk_before_last (place + length xs) ys refused more ≡ talk_before_last place (xs ++ ys) refused (rs ++ more)
-before_last-whole xs ys place true rs more stays same k some = sym (reply_texts-append xs ys place rs more stays same)
-before_last-whole xs [] place false rs more stays same k some = absurd (omega (arith, some))
-before_last-whole xs (y ∷ ys) place false rs more stays same k some =
-    sym (reply_texts-append xs (before_last (y ∷ ys)) place rs more stays same)
-    ∙ ap (λ fs. reply_texts fs place (rs ++ more)) (sym (before_last-append xs y ys))
-
-pub talk_length-append : (xs ys : List Frame) (refused : Bool) → talk_length (xs ++ ys) refused ≡ length xs + talk_length ys refused
-talk_length-append xs ys refused = rw length-append (omega arith)
-
--- nothing is said before what is said last of at most one frame
-pub nothing_before : (place : ℕ) (refused : Bool) → talk_before_last place [] refused [] ≡ []
-nothing_before place true = refl
-nothing_before place false = refl

@@ -1,6 +1,7 @@
 -- A connection on its way, joined with what comes next.
-use Rattle.std.proofs.Common.{◌≡◌, ℕ, ◌+◌, Bool, true, false, List, [], ◌∷◌, ◌++◌, length, Option, Some, None, IfSome, inl, inr, sym, ap, subst, ◌∙◌, arith, length-append}
-use Rattle.cse_server.specs.Outside.{LinkTold, Outside, Puts, SinkTold}
+use Rattle.std.proofs.Common.{◌≡◌, ℕ, ◌+◌, Bool, true, false, List, [], ◌∷◌, ◌++◌, length, Option, Some, None, IfSome, sym, ap, subst, ◌∙◌, arith, append_assoc, length-append}
+use Rattle.cse_server.specs.Outside.{LinkTold, Outside}
+use Rattle.cse_server.specs.Together.{KeepsBackAllButLast}
 use Rattle.turn_desk.specs.Entries.{Marked}
 use Rattle.desk_replies.specs.Asking.{Asked, asked_on}
 use Rattle.desk_replies.specs.Rule.{ReplyRule}
@@ -10,13 +11,13 @@ use Rattle.cse_machine.specs.declared.event.Event.{Event}
 use Rattle.cse_machine.specs.declared.event.Outcome.{Outcome}
 use Rattle.cse_server.specs.declared.connection.Ended.{Ended}
 use Rattle.cse_server.specs.declared.connection.Ended.TheVariants.{Closed, NoFrame, ReadFault, WriteFault, Memory}
-use Rattle.cse_server.specs.Talk.{requests_in, reply_texts, talk, talk_before_last, talk_length, some_closes}
+use Rattle.cse_server.specs.Talk.{requests_in, some_closes, talk_texts, texts_to}
 use Rattle.http_frames.specs.declared.frame.Side.TheVariants.{Request}
 use Rattle.http_frames.specs.Stream.{BeginsWithFrames}
-use Rattle.cse_server.specs.Connection.{AnswersFrames, EndsRightly, PutsOneLess, RefusesRightly, Says, ServesFrom}
-use Rattle.cse_server.specs.Way.{AsksFrames, Goes, Leads}
-use Rattle.cse_server.proofs.TalkLemmas.{SaySound-append, some_closes-append, ends_at_close-append, requests_in-append, reply_texts-append, talk-append, talk_length-append, before_last-joined, before_last-whole}
-use Rattle.cse_server.proofs.PutLemmas.{Puts-append, cut_behind, less_behind}
+use Rattle.cse_server.specs.Connection.{AnswersFrames, EndsRightly, RefusesRightly, itself}
+use Rattle.cse_server.specs.Way.{AsksFrames, Goes, Leads, StandsOn, StopsFrom}
+use Rattle.cse_server.proofs.TalkLemmas.{SaySound-append, some_closes-append, ends_at_close-append, requests_in-append, talk_texts-append, texts_to-append}
+use Rattle.cse_server.proofs.StandLemmas.{StandsOn-then}
 
 -- ---- streams
 
@@ -46,7 +47,7 @@ Ends-then place between WriteFault refused xs ys rest now stays places h = h
 Ends-then place between Memory refused xs ys rest now stays places h = h
 
 -- what the stream says of an end
-abbrev EndsOn : ℕ → Ended → Bool → List Frame → Option (List ℕ) → List ℕ → Type 0
+abbrev pub EndsOn : ℕ → Ended → Bool → List Frame → Option (List ℕ) → List ℕ → Type 0
 EndsOn place ended refused heard now bytes =
     (rest : List ℕ) × BeginsWithFrames Request bytes heard rest × RefusesRightly place refused heard rest × EndsRightly place ended refused heard rest now
 
@@ -59,18 +60,6 @@ stream_then place between xs ys refused ended (Some a) (Some b) now stays places
   Refuses-then place between refused xs ys then.0 stays places then.2,
   Ends-then place between ended refused xs ys then.0 now stays places then.3,
 )
-
--- Replies that were put, and then what a connection says as it ends: `before` is all but what it says last.
-module _ (old mid new : SinkTold) (replied before both more last : List ℕ) (m n : ℕ) (joined : replied ++ before ≡ both ++ last) (whole : (k : ℕ) → k + 1 ≡ n → replied ++ before ≡ both) (first : Puts replied m old mid) where
-  Says-then : (ended : Ended) → Says ended before more n mid new → Says ended both (replied ++ more) (m + n) old new
-  Says-then Closed then = Puts-append old mid new replied more m n first then
-  Says-then NoFrame then = Puts-append old mid new replied more m n first then
-  Says-then ReadFault then = Puts-append old mid new replied more m n first then
-  Says-then WriteFault then = cut_behind old mid new replied before both more last m n joined first then
-  Says-then Memory then = elim then [
-    | inl all ↦ inl (Puts-append old mid new replied more m n first all)
-    | inr less ↦ inr (less_behind old mid new replied before both m n (whole less.less less.is_less) first less)
-  ]
 
 -- ---- questions
 
@@ -93,59 +82,49 @@ module _ {S : Type 0} (rule : ReplyRule) (grown : S → List (Marked Event Outco
 
   -- ---- what goes on, and then goes on or ends
 
-  pub Goes-then : (place between next : ℕ) (before seat after : S) (old mid new : Outside)
-      → Goes place between rule grown before seat old mid
-      → Goes between next rule grown seat after mid new
-      → Goes place next rule grown before after old new
-  Goes-then place between next before seat after old mid new a b = record {
-    heard = a.heard ++ b.heard;
-    asks = asks-append before seat after old.readings mid.readings new.readings old.link mid.link new.link a.heard b.heard a.asks a.all b.asks;
-    all = b.all;
-    places = rw length-append (omega (arith, a.places, b.places));
-    stays_on = some_closes-append a.heard b.heard place a.stays_on ∙ ap (some_closes b.heard) a.places ∙ b.stays_on;
-    stream = Leads-append a.heard b.heard old.left mid.left new.left a.stream b.stream;
-    said =
-        let fit = answered_length rule (requests_in a.heard) a.asks.asked a.asks.answers in
-        rw (reply_texts-append a.heard b.heard place a.asks.answers.replies b.asks.answers.replies a.stays_on fit, a.places, length-append)
-        (Puts-append old.out mid.out new.out _ _ (length a.heard) (length b.heard) a.said b.said);
-    sound = SaySound-append a.heard b.heard a.asks.answers.replies b.asks.answers.replies (answered_length rule (requests_in a.heard) a.asks.asked a.asks.answers) a.sound b.sound;
-  }
+  pub Goes-then : (place between next : ℕ) (before seat after : S) (waited waits waiting : List ℕ) (old mid new : Outside)
+      → Goes place between rule grown before seat waited waits old mid
+      → Goes between next rule grown seat after waits waiting mid new
+      → Goes place next rule grown before after waited waiting old new
+  Goes-then place between next before seat after waited waits waiting old mid new a b =
+      let first = a.asks.answers.replies in
+      let then = b.asks.answers.replies in
+      let fit = answered_length rule (requests_in a.heard) a.asks.asked a.asks.answers in record {
+        heard = a.heard ++ b.heard;
+        asks = asks-append before seat after old.readings mid.readings new.readings old.link mid.link new.link a.heard b.heard a.asks a.all b.asks;
+        all = b.all;
+        places = rw length-append (omega (arith, a.places, b.places));
+        stays_on = some_closes-append a.heard b.heard place a.stays_on ∙ ap (some_closes b.heard) a.places ∙ b.stays_on;
+        stream = Leads-append a.heard b.heard old.left mid.left new.left a.stream b.stream;
+        said = subst (λ (v : List (List ℕ)). StandsOn None v waited waiting old.out new.out)
+            (sym (texts_to-append a.heard b.heard place first then a.stays_on fit ∙ ap (λ n. texts_to a.heard place first ++ texts_to b.heard n then) a.places))
+            (StandsOn-then None (texts_to a.heard place first) (texts_to b.heard between then) waited waits waiting old.out mid.out new.out a.said b.said);
+        sound = SaySound-append a.heard b.heard first then fit a.sound b.sound;
+      }
 
-  pub Serves-then : (place between : ℕ) (before seat after : S) (old mid new : Outside) (ended : Ended)
-      → Goes place between rule grown before seat old mid
-      → ServesFrom between rule grown seat after mid new ended
-      → ServesFrom place rule grown before after old new ended
-  Serves-then place between before seat after old mid new ended a b =
-      let t = b.talks in
-      let said = a.asks.answers.replies in
-      let more = t.answers.replies in
+  pub Stops-then : (place between : ℕ) (before seat after : S) (waited waits waiting : List ℕ) (old mid new : Outside) (ended : Ended)
+      → Goes place between rule grown before seat waited waits old mid
+      → StopsFrom between rule grown seat after waits waiting mid new ended
+      → StopsFrom place rule grown before after waited waiting old new ended
+  Stops-then place between before seat after waited waits waiting old mid new ended a b =
+      let first = a.asks.answers.replies in
+      let then = b.asks.answers.replies in
       let fit = answered_length rule (requests_in a.heard) a.asks.asked a.asks.answers in
-      let joined = before_last-joined a.heard t.heard place t.refused said more a.stays_on fit in
-      let whole = before_last-whole a.heard t.heard place t.refused said more a.stays_on fit in record {
-        asked = asked_on a.asks.asked b.asked;
-        asks = has_asked_on grown on before seat after old.readings mid.readings new.readings old.link mid.link new.link a.asks.asked b.asked a.asks.asks b.asks;
-        talks = record {
-          heard = a.heard ++ t.heard;
-          refused = t.refused;
-          answers = answers-append a.heard t.heard a.asks.asked b.asked a.asks.answers a.all t.answers;
-          up_to = ends_at_close-append a.heard t.heard place a.stays_on (rw a.places t.up_to);
-          stream = stream_then place between a.heard t.heard t.refused ended old.left mid.left new.left a.stays_on a.places a.stream t.stream;
-          says =
-              let says =
-              Says-then old.out mid.out new.out (reply_texts a.heard place said) (talk_before_last (place + length a.heard) t.heard t.refused more)
-              (talk_before_last place (a.heard ++ t.heard) t.refused (said ++ more)) (talk (place + length a.heard) t.heard t.refused more) joined.0
-              (length a.heard) (talk_length t.heard t.refused) joined.1 whole a.said ended
-              (rw a.places t.says) in
-              rw (talk-append a.heard t.heard place t.refused said more a.stays_on fit, talk_length-append a.heard t.heard t.refused) says;
-          sound = λ all. SaySound-append a.heard t.heard said more fit a.sound (t.sound all);
-          cut = λ begun.
-              let less : PutsOneLess (talk_before_last (place + length a.heard) t.heard t.refused more) (talk_length t.heard t.refused) mid.out new.out =
-              rw a.places ((t.cut begun).1) in (
-                (t.cut begun).0,
-                rw (talk_length-append a.heard t.heard t.refused)
-                    (less_behind old.out mid.out new.out (reply_texts a.heard place said) (talk_before_last (place + length a.heard) t.heard t.refused more)
-                    (talk_before_last place (a.heard ++ t.heard) t.refused (said ++ more))
-                    (length a.heard) (talk_length t.heard t.refused) (whole less.less less.is_less) a.said less),
-              );
-        };
+      let joined : talk_texts place (a.heard ++ b.heard) b.refused (first ++ then) ≡ texts_to a.heard place first ++ talk_texts between b.heard b.refused then =
+      talk_texts-append a.heard b.heard place b.refused first then a.stays_on fit ∙ ap (λ n. texts_to a.heard place first ++ talk_texts n b.heard b.refused then) a.places in record {
+        heard = a.heard ++ b.heard;
+        refused = b.refused;
+        asks = asks-append before seat after old.readings mid.readings new.readings old.link mid.link new.link a.heard b.heard a.asks a.all b.asks;
+        up_to = ends_at_close-append a.heard b.heard place a.stays_on (rw a.places b.up_to);
+        stream = stream_then place between a.heard b.heard b.refused ended old.left mid.left new.left a.stays_on a.places a.stream b.stream;
+        said = subst (λ (v : List (List ℕ)). StandsOn (Some ended) v waited waiting old.out new.out) (sym joined)
+            (StandsOn-then (Some ended) (texts_to a.heard place first) (talk_texts between b.heard b.refused then) waited waits waiting old.out mid.out new.out a.said b.said);
+        sound = λ all. SaySound-append a.heard b.heard first then fit a.sound (b.sound all);
+        cut = λ begun.
+            let c = b.cut begun in (
+              c.0,
+              λ earlier start k. subst (λ (v : List (List ℕ)). KeepsBackAllButLast itself v waiting start new.out)
+                  (append_assoc earlier (texts_to a.heard place first) (talk_texts between b.heard b.refused then) ∙ ap (λ v. earlier ++ v) (sym joined))
+                  (c.1 (earlier ++ texts_to a.heard place first) start (a.said earlier start k)),
+            );
       }

@@ -4,7 +4,8 @@ use Rattle.std.specs.Prelude.{◌≡◌, ◌≢◌, ◌⊎◌, ℕ, ◌+◌, ◌
 use Rattle.std.specs.Prelude.{◌++◌, length, Option, IfSome, IsTrue}
 use Rattle.desk_replies.specs.Asking.{Asked, HasAsked}
 use Rattle.desk_replies.specs.Rule.{IsAnswered, ReplyRule}
-use Rattle.cse_server.specs.Outside.{Outside, Puts, SinkTold}
+use Rattle.cse_server.specs.Outside.{Outside, SinkTold}
+use Rattle.cse_server.specs.Together.{WritesAll, WritesAllButLast, WritesPart, WritesPartBeforeLast}
 use Rattle.turn_desk.specs.Entries.{Marked}
 use Rattle.http_frames.specs.declared.frame.Frame.{Frame}
 use Rattle.http_frames.specs.declared.frame.Side.TheVariants.{Request}
@@ -15,7 +16,7 @@ use Rattle.cse_machine.specs.declared.event.Outcome.{Outcome}
 use Rattle.cse_server.specs.declared.connection.Ended.{Ended}
 use Rattle.cse_server.specs.declared.connection.Ended.TheVariants.{Closed, NoFrame, ReadFault}
 use Rattle.cse_server.specs.declared.connection.Ended.TheVariants.{WriteFault, Memory}
-use Rattle.cse_server.specs.Talk.{SaySound, requests_in, talk, talk_before_last, talk_length, some_closes}
+use Rattle.cse_server.specs.Talk.{SaySound, requests_in, some_closes, talk_texts}
 use Rattle.cse_server.specs.Talk.{ends_at_close}
 
 -- ---- how it ends
@@ -53,30 +54,29 @@ EndsRightly place ReadFault refused heard rest now =
 EndsRightly place WriteFault refused heard rest now = IfSome now (ReadsLittle rest)
 EndsRightly place Memory refused heard rest now = IfSome now (ReadsLittle rest)
 
--- The first of these texts is written, and then a part of what the second has behind it, by so many
--- puts.
-pub record PutsCut (before text : List ℕ) (count : ℕ) (old new : SinkTold) : Type 0 where
-  pub part : List ℕ
-  pub unsaid : List ℕ
-  pub text_is : text ≡ before ++ (part ++ unsaid)
-  pub put : Puts (before ++ part) count old new
+-- a text says itself
+abbrev pub itself : List ℕ → List ℕ
+itself text = text
 
--- the first of these texts is written, by one put less than so many
-pub record PutsOneLess (before : List ℕ) (count : ℕ) (old new : SinkTold) : Type 0 where
-  pub less : ℕ
-  pub is_less : less + 1 ≡ count
-  pub put : Puts before less old new
+-- What is written where it ends so, these being the texts that are said: all of them, in order,
+-- some by each put. Where writing failed, a part; where memory ran out, they are all written, or
+-- all but the last one, which isn't begun.
+abbrev pub Says : Ended → List (List ℕ) → SinkTold → SinkTold → Type 0
+Says Closed texts old new = WritesAll itself texts old new
+Says NoFrame texts old new = WritesAll itself texts old new
+Says ReadFault texts old new = WritesAll itself texts old new
+Says WriteFault texts old new = WritesPart itself texts old new
+Says Memory texts old new =
+    WritesAll itself texts old new ⊎ WritesAllButLast itself texts old new
 
--- The bytes that are written where it ends so, each reply by one put: all of its talk, which has so
--- many replies. Where writing failed, they are all replies but the last one, and of that a part;
--- where memory ran out, they are all of them, or all but the last one, which isn't begun.
-abbrev pub Says : Ended → List ℕ → List ℕ → ℕ → SinkTold → SinkTold → Type 0
-Says Closed before text count old new = Puts text count old new
-Says NoFrame before text count old new = Puts text count old new
-Says ReadFault before text count old new = Puts text count old new
-Says WriteFault before text count old new = PutsCut before text count old new
-Says Memory before text count old new =
-    Puts text count old new ⊎ PutsOneLess before count old new
+-- What is written where memory ran out in what is asked for the last reply, which isn't begun: all
+-- those before it; or a part of them, where writing failed then.
+abbrev pub SaysBeforeLast : Ended → List (List ℕ) → SinkTold → SinkTold → Type 0
+SaysBeforeLast Closed texts old new = ⊥
+SaysBeforeLast NoFrame texts old new = ⊥
+SaysBeforeLast ReadFault texts old new = ⊥
+SaysBeforeLast WriteFault texts old new = WritesPartBeforeLast itself texts old new
+SaysBeforeLast Memory texts old new = WritesAllButLast itself texts old new
 
 -- The frames from this place on were answered by this rule: the requests to which they bind, in
 -- order.
@@ -107,14 +107,12 @@ pub record Talks (rule : ReplyRule) (place : ℕ) (asked : Asked) (old new : Opt
       × RefusesRightly place refused heard rest
       × EndsRightly place ended refused heard rest new)
   -- their talk by these replies is written
-  pub says : Says ended (talk_before_last place heard refused answers.replies)
-      (talk place heard refused answers.replies) (talk_length heard refused) said told
+  pub says : Says ended (talk_texts place heard refused answers.replies) said told
   -- what was written whole is sound
   pub sound : says_all ended ≡ true → SaySound heard answers.replies
   -- where memory ran out in what is asked for the last one, the reply to it isn't begun
   pub cut : answers.is_whole ≡ false
-      → (ended ≡ Memory) × PutsOneLess (talk_before_last place heard refused answers.replies)
-      (talk_length heard refused) said told
+      → SaysBeforeLast ended (talk_texts place heard refused answers.replies) said told
 
 -- A connection was served at a seat by this rule, from the frame at this place on, what the objects
 -- outside told being first `old` and now `new`: the seat asked this, and the connection was

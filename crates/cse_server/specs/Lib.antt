@@ -4,4 +4,5 @@ pub mod Connection
 pub mod Outside
 pub mod Sending
 pub mod Talk
+pub mod Together
 pub mod Way

@@ -1,7 +1,7 @@
 -- What a connection is answered, by its frames and the replies to their requests (TS-0009, 6; RFC
 -- 9112, 9.3).
 use Rattle.std.specs.Prelude.{ℕ, ◌+◌, Bool, true, false, not, ◌&&◌, ◌||◌, List, [], ◌∷◌, ◌++◌}
-use Rattle.std.specs.Prelude.{Option, Some, None, IfSome, if◌then◌else◌, length, ⊤}
+use Rattle.std.specs.Prelude.{Option, Some, None, IfSome, if◌then◌else◌, ⊤}
 use Rattle.std.specs.List.{filter_map}
 use Rattle.std.specs.Result.{result_ok}
 use Rattle.m2m_names.specs.declared.codes.Rsc.TheVariants.{BadRequest}
@@ -52,6 +52,14 @@ reply_texts (frame ∷ frames) place replies =
     ++ (if closes place frame then []
     else reply_texts frames (place + 1) (replies_behind (request_in frame) replies))
 
+-- the same, a text for each reply
+abbrev pub texts_to : List Frame → ℕ → List ReplyParts → List (List ℕ)
+texts_to [] place replies = []
+texts_to (frame ∷ frames) place replies =
+    reply_text (reply_for frame (request_in frame) replies) (closes place frame)
+    ∷ (if closes place frame then []
+    else texts_to frames (place + 1) (replies_behind (request_in frame) replies))
+
 -- The content of each reply that is said to frames is sound, as each value is that is kept.
 abbrev pub SaySound : List Frame → List ReplyParts → Type 0
 SaySound [] replies = ⊤
@@ -75,12 +83,6 @@ ends_at_close (frame ∷ next ∷ frames) place =
 abbrev pub last_reply : List ℕ
 last_reply = reply_text (malformed None) true
 
--- the frames before the last one
-abbrev pub before_last : List Frame → List Frame
-before_last [] = []
-before_last (frame ∷ []) = []
-before_last (frame ∷ next ∷ frames) = frame ∷ before_last (next ∷ frames)
-
 -- The talk of a connection from the frame at this place on, which is the first of these: what is
 -- said to its frames, the replies to their requests being these, and the last reply where the rest
 -- of its stream is refused.
@@ -88,13 +90,7 @@ abbrev pub talk : ℕ → List Frame → Bool → List ReplyParts → List ℕ
 talk place frames refused replies =
     reply_texts frames place replies ++ (if refused then last_reply else [])
 
--- The talk but for what it ends with: the last reply where the rest is refused, else the reply to
--- the last frame.
-abbrev pub talk_before_last : ℕ → List Frame → Bool → List ReplyParts → List ℕ
-talk_before_last place frames refused replies =
-    reply_texts (if refused then frames else before_last frames) place replies
-
--- how many replies the talk has: one to each of its frames, of which none stands behind one that
--- closes, and the last one where the rest is refused
-abbrev pub talk_length : List Frame → Bool → ℕ
-talk_length frames refused = length frames + (if refused then 1 else 0)
+-- the same, a text for each reply
+abbrev pub talk_texts : ℕ → List Frame → Bool → List ReplyParts → List (List ℕ)
+talk_texts place frames refused replies =
+    texts_to frames place replies ++ (if refused then last_reply ∷ [] else [])

@@ -1,5 +1,5 @@
 //! One connection, from its first frame to its end.
-ghost use Rattle.std.specs.Prelude.{◌≡◌, ◌<◌, ◌+◌, length, false, true, Some, None, IfSome};
+ghost use Rattle.std.specs.Prelude.{◌≡◌, ◌<◌, ◌+◌, [], length, false, true, Some, None, IfSome};
 ghost use Rattle.std.specs.Prelude.{MatchOption};
 ghost use Rattle.m2m_io.specs.Counts.{CountsFault};
 ghost use Rattle.m2m_value.specs.Sound.{IsSound};
@@ -9,15 +9,16 @@ ghost use Rattle.cse_server.specs.Outside.{EndsByFault, link_told, outside, sink
 ghost use Rattle.http_frames.specs.Inbox.{TakesNext, most_held, stream_of};
 ghost use Rattle.http_frames.specs.declared.frame.Side.TheVariants.{Request as AsRequest};
 ghost use Rattle.http_binding.specs.Replying.{reply_text};
-ghost use Rattle.cse_server.specs.Connection.{Serves, ServesFrom};
-ghost use Rattle.cse_server.specs.Way.{AnswersFrame, Goes, Refuses, SaysTurn, is_put};
+ghost use Rattle.cse_server.specs.Connection.{Serves};
+ghost use Rattle.cse_server.specs.Way.{AnswersFrame, Goes, Refuses, SaysTurn, StopsFrom, is_put};
 
 use crate::closing::{MOST_FRAMES, closes};
-use crate::replying::{id_of, put_last_reply, put_told, refusal_of};
+use crate::replying::{id_of, push_last_reply, refusal_of};
+use crate::waiting::{put_last, put_many_replies, put_replies};
 use cse_machine::{Event, Outcome};
 use desk_replies::{Plainly, Replier};
-use http_binding::{BindFault, BodyRoom, ReplyRoom, to_request_in};
-use http_frames::{Frame, FrameFault, Inbox, Next, PutFault};
+use http_binding::{BindFault, BodyRoom, ReplyRoom, push_reply_text, to_request_in};
+use http_frames::{Frame, FrameFault, Inbox, Next};
 use m2m_io::{Clock, Connection, Link};
 use primitive_json::Reply;
 use service_observer::ReplyObserver;
@@ -39,21 +40,6 @@ pub enum Ended {
     Memory,
 }
 
-impl From<PutFault> for Ended {
-    ghost use Rattle.std.specs.Prelude.{◌≡◌};
-    ghost use Rattle.http_frames.specs.declared.fault.PutFault.{PutFault};
-    ghost use Rattle.cse_server.specs.Way.{end_of_put};
-
-    ghost from_gives = { λ fault e. e ≡ end_of_put fault };
-
-    fn from(fault: PutFault) -> Self {
-        match fault {
-            PutFault::WriteFault => Ended::WriteFault,
-            PutFault::OutOfMemory => Ended::Memory,
-        }
-    }
-}
-
 /// What answers the requests of connections: where they are asked, and what makes replies of the
 /// answers.
 pub struct Answerer<'a, D, W> {
@@ -72,12 +58,13 @@ impl<D, W> Drop for Answerer<'_, D, W> {
     }
 }
 
-/// What one connection is read and answered with.
+/// What one connection is read and answered with, and the bytes of replies that wait to be put.
 #[derive(Drop)]
 struct Rooms {
     inbox: Inbox,
     bodies: BodyRoom,
     replies: ReplyRoom,
+    waiting: Vec<u8>,
 }
 
 /// A frame, and its place on its connection, from 1.
@@ -91,9 +78,11 @@ struct Heard {
 fn end_refused<X: Connection + ReplyObserver>(
     alloc: Global,
     conn: &mut X,
+    waiting: &mut Vec<u8>,
     room: &mut ReplyRoom,
 ) -> Ended
-    ensures refuses { Refuses (sink_told (X.written conn.old) (X.puts conn.old))
+    ensures refuses { Refuses waiting.old.items waiting.new.items
+        (sink_told (X.written conn.old) (X.puts conn.old))
         (sink_told (X.written conn.new) (X.puts conn.new)) result }
     ensures writes { EndsByFault Ended.WriteFault result
         (X.Sink.faults conn.old) (X.Sink.faults conn.new) }
@@ -101,9 +90,12 @@ fn end_refused<X: Connection + ReplyObserver>(
     ensures read_faults { X.Source.faults conn.new ≡ X.Source.faults conn.old }
     ensures holds { (X.kept_by_read conn.new).holds ≡ (X.kept_by_read conn.old).holds }
 {
-    match put_last_reply(alloc, conn, room) {
+    let Ok(()) = push_last_reply(alloc, conn, waiting, room) else {
+        return Ended::Memory;
+    };
+    match put_many_replies(waiting, conn) {
         Ok(()) => Ended::NoFrame,
-        Err(fault) => Ended::from(fault),
+        Err(_) => Ended::WriteFault,
     }
 }
 
@@ -125,11 +117,12 @@ fn read_next<X: Connection>(
     inbox.next_request(alloc, conn)
 }
 
-/// Writes the reply to a frame that was heard, and tells the connection of it, and why the frame
+/// Says the reply to a frame that was heard, and tells the connection of it, and why the frame
 /// binds to no request. None where the connection goes on.
 fn say_reply<X: Connection + ReplyObserver>(
     alloc: Global,
     conn: &mut X,
+    waiting: &mut Vec<u8>,
     room: &mut ReplyRoom,
     heard: &Heard,
     fault: Option<&BindFault>,
@@ -137,6 +130,7 @@ fn say_reply<X: Connection + ReplyObserver>(
 ) -> Option<Ended>
     ensures says { SaysTurn heard.now.place heard.now.frame result
         (reply_text reply.now (closes heard.now.place heard.now.frame))
+        waiting.old.items waiting.new.items
         (sink_told (X.written conn.old) (X.puts conn.old))
         (sink_told (X.written conn.new) (X.puts conn.new)) }
     ensures sound { is_put result ≡ true → IfSome reply.now.pc IsSound }
@@ -147,10 +141,15 @@ fn say_reply<X: Connection + ReplyObserver>(
     ensures holds { (X.kept_by_read conn.new).holds ≡ (X.kept_by_read conn.old).holds }
 {
     let close = closes(heard.place, &heard.frame);
-    match put_told(alloc, conn, room, &heard.frame, fault, reply, close) {
+    let from = waiting.len();
+    let Ok(()) = push_reply_text(alloc, reply, close, room, waiting) else {
+        return Some(Ended::Memory);
+    };
+    conn.replied(&heard.frame, fault, reply, &waiting[from..]);
+    match put_many_replies(waiting, conn) {
         Ok(()) if close => Some(Ended::Closed),
         Ok(()) => None,
-        Err(fault) => Some(Ended::from(fault)),
+        Err(_) => Some(Ended::WriteFault),
     }
 }
 
@@ -178,7 +177,7 @@ where
             (sink_told (X.written conn.new) (X.puts conn.new)) (C.readings clock.new)
             (link_told (L.exchanges link.new) (L.faults link.new)) in
             AnswersFrame heard.now.place (W.rule self.now.replier.now) D.grown seat.old seat.new
-            old new heard.now.frame result }
+            rooms.old.waiting.items rooms.new.waiting.items old new heard.now.frame result }
         ensures writes { EndsByFault (Some Ended.WriteFault) result
             (X.Sink.faults conn.old) (X.Sink.faults conn.new) }
         ensures left { X.left conn.new ≡ X.left conn.old }
@@ -195,7 +194,15 @@ where
                 else {
                     return Some(Ended::Memory);
                 };
-                say_reply(self.alloc, conn, &mut rooms.replies, heard, None, &reply)
+                say_reply(
+                    self.alloc,
+                    conn,
+                    &mut rooms.waiting,
+                    &mut rooms.replies,
+                    heard,
+                    None,
+                    &reply,
+                )
             }
             Err(fault) => {
                 if let BindFault::OutOfMemory = fault {
@@ -204,7 +211,15 @@ where
                 match refusal_of(self.alloc, &heard.frame) {
                     Ok(reply) => {
                         let told = Some(&fault);
-                        say_reply(self.alloc, conn, &mut rooms.replies, heard, told, &reply)
+                        say_reply(
+                            self.alloc,
+                            conn,
+                            &mut rooms.waiting,
+                            &mut rooms.replies,
+                            heard,
+                            told,
+                            &reply,
+                        )
                     }
                     Err(_) => Some(Ended::Memory),
                 }
@@ -212,7 +227,92 @@ where
         }
     }
 
-    /// Serves what stands next on a connection, where it has the place `place`, from 1. None where
+    /// Answers a frame, and gives its room back. None where the connection goes on.
+    fn answer_frame<X: Connection + ReplyObserver, C: Clock, L: Link>(
+        &self,
+        seat: &mut D::Seat,
+        conn: &mut X,
+        clock: &mut C,
+        link: &mut L,
+        rooms: &mut Rooms,
+        heard: Heard,
+    ) -> Option<Ended>
+        requires { D.seats self.now.desk.now seat.old }
+        ensures seats { D.seats self.now.desk.now seat.new }
+        ensures answers { let old = outside (X.left conn.old)
+            (sink_told (X.written conn.old) (X.puts conn.old)) (C.readings clock.old)
+            (link_told (L.exchanges link.old) (L.faults link.old)) in
+            let new = outside (X.left conn.new)
+            (sink_told (X.written conn.new) (X.puts conn.new)) (C.readings clock.new)
+            (link_told (L.exchanges link.new) (L.faults link.new)) in
+            AnswersFrame heard.place (W.rule self.now.replier.now) D.grown seat.old seat.new
+            rooms.old.waiting.items rooms.new.waiting.items old new heard.frame result }
+        ensures writes { EndsByFault (Some Ended.WriteFault) result
+            (X.Sink.faults conn.old) (X.Sink.faults conn.new) }
+        ensures left { X.left conn.new ≡ X.left conn.old }
+        ensures read_faults { X.Source.faults conn.new ≡ X.Source.faults conn.old }
+        ensures holds { (X.kept_by_read conn.new).holds ≡ (X.kept_by_read conn.old).holds }
+        ensures inbox { rooms.new.inbox ≡ rooms.old.inbox }
+    {
+        let ended = self.answer(seat, conn, clock, link, rooms, &heard);
+        rooms.inbox.give_back(heard.frame);
+        ended
+    }
+
+    /// Serves what stands next on a connection, at the place `place`, from 1, once more is read for
+    /// it. Nothing waits meanwhile. None where the connection goes on.
+    fn serve_read<X: Connection + ReplyObserver, C: Clock, L: Link>(
+        &self,
+        seat: &mut D::Seat,
+        conn: &mut X,
+        clock: &mut C,
+        link: &mut L,
+        rooms: &mut Rooms,
+        place: u64,
+    ) -> Option<Ended>
+        requires seats { D.seats self.now.desk.now seat.old }
+        requires still_open { rooms.old.inbox.refused ≡ false }
+        requires few { length rooms.old.inbox.held < most_held AsRequest }
+        requires put { rooms.old.waiting.items ≡ [] }
+        ensures few { length rooms.new.inbox.held < most_held AsRequest }
+        ensures seats { D.seats self.now.desk.now seat.new }
+        ensures next { let rule = W.rule self.now.replier.now in
+            let stream = stream_of rooms.old.inbox.held (X.left conn.old) in
+            let old = outside stream (sink_told (X.written conn.old) (X.puts conn.old))
+            (C.readings clock.old) (link_told (L.exchanges link.old) (L.faults link.old)) in
+            let new = outside (X.left conn.new)
+            (sink_told (X.written conn.new) (X.puts conn.new)) (C.readings clock.new)
+            (link_told (L.exchanges link.new) (L.faults link.new)) in
+            let on = record new { left = stream_of rooms.new.inbox.held (X.left conn.new) } in
+            MatchOption result ((rooms.new.inbox.refused ≡ false)
+            × Goes place (place + 1) rule D.grown seat.old seat.new
+            rooms.old.waiting.items rooms.new.waiting.items old on)
+            (StopsFrom place rule D.grown seat.old seat.new
+            rooms.old.waiting.items rooms.new.waiting.items old new) }
+        ensures reads { EndsByFault (Some Ended.ReadFault) result
+            (X.Source.faults conn.old) (X.Source.faults conn.new) }
+        ensures writes { EndsByFault (Some Ended.WriteFault) result
+            (X.Sink.faults conn.old) (X.Sink.faults conn.new) }
+        ensures holds { (X.kept_by_read conn.new).holds ≡ (X.kept_by_read conn.old).holds }
+    {
+        match read_next(self.alloc, conn, &mut rooms.inbox) {
+            Ok(Next::Message(frame)) => {
+                self.answer_frame(seat, conn, clock, link, rooms, Heard { place, frame })
+            }
+            Ok(Next::End) => Some(Ended::Closed),
+            Err(FrameFault::NoFrame) => Some(end_refused(
+                self.alloc,
+                conn,
+                &mut rooms.waiting,
+                &mut rooms.replies,
+            )),
+            Err(FrameFault::ReadFault) => Some(Ended::ReadFault),
+            Err(FrameFault::OutOfMemory) => Some(Ended::Memory),
+        }
+    }
+
+    /// Serves what stands next on a connection, where it has the place `place`, from 1. Where no
+    /// request stands whole in what is held, all that waits is put before more is read. None where
     /// the connection goes on.
     fn serve_next<X: Connection + ReplyObserver, C: Clock, L: Link>(
         &self,
@@ -237,25 +337,31 @@ where
             (link_told (L.exchanges link.new) (L.faults link.new)) in
             let on = record new { left = stream_of rooms.new.inbox.held (X.left conn.new) } in
             MatchOption result ((rooms.new.inbox.refused ≡ false)
-            × Goes place (place + 1) rule D.grown seat.old seat.new old on)
-            (ServesFrom place rule D.grown seat.old seat.new old new) }
+            × Goes place (place + 1) rule D.grown seat.old seat.new
+            rooms.old.waiting.items rooms.new.waiting.items old on)
+            (StopsFrom place rule D.grown seat.old seat.new
+            rooms.old.waiting.items rooms.new.waiting.items old new) }
         ensures reads { EndsByFault (Some Ended.ReadFault) result
             (X.Source.faults conn.old) (X.Source.faults conn.new) }
         ensures writes { EndsByFault (Some Ended.WriteFault) result
             (X.Sink.faults conn.old) (X.Sink.faults conn.new) }
         ensures holds { (X.kept_by_read conn.new).holds ≡ (X.kept_by_read conn.old).holds }
     {
-        match read_next(self.alloc, conn, &mut rooms.inbox) {
-            Ok(Next::Message(frame)) => {
-                let heard = Heard { place, frame };
-                let ended = self.answer(seat, conn, clock, link, rooms, &heard);
-                rooms.inbox.give_back(heard.frame);
-                ended
+        match rooms.inbox.held_request(self.alloc) {
+            Ok(Some(frame)) => {
+                self.answer_frame(seat, conn, clock, link, rooms, Heard { place, frame })
             }
-            Ok(Next::End) => Some(Ended::Closed),
-            Err(FrameFault::NoFrame) => Some(end_refused(self.alloc, conn, &mut rooms.replies)),
-            Err(FrameFault::ReadFault) => Some(Ended::ReadFault),
-            Err(FrameFault::OutOfMemory) => Some(Ended::Memory),
+            Ok(None) => match put_replies(&mut rooms.waiting, conn) {
+                Ok(()) => self.serve_read(seat, conn, clock, link, rooms, place),
+                Err(_) => Some(Ended::WriteFault),
+            },
+            Err(FrameFault::NoFrame) => Some(end_refused(
+                self.alloc,
+                conn,
+                &mut rooms.waiting,
+                &mut rooms.replies,
+            )),
+            Err(_) => Some(Ended::Memory),
         }
     }
 
@@ -290,14 +396,16 @@ where
         let Ok(inbox) = Inbox::new(self.alloc) else {
             return Ended::Memory;
         };
+        let waiting = Vec::new(self.alloc);
         let mut rooms = Rooms {
             inbox,
             bodies: BodyRoom::new(),
             replies: ReplyRoom::new(self.alloc),
+            waiting,
         };
         for place in 1..MOST_FRAMES + 1 {
             if let Some(ended) = self.serve_next(seat, conn, clock, link, &mut rooms, place) {
-                return ended;
+                return put_last(&mut rooms.waiting, conn, ended);
             }
         }
         Ended::Closed
@@ -309,9 +417,12 @@ where
 /// A frame that binds to a request is asked at the desk, at a reading of the clock; one that
 /// doesn't is refused, and the connection goes on. It closes behind the reply to a frame that asks
 /// for it, to one of HTTP/1.0 and to the 10,000th. Where no frame can stand, one last reply says
-/// so. Each reply is written by one call of the connection. Where memory runs out in the event of a
-/// request, its reply says so and the connection goes on; elsewhere it ends the connection, and a
-/// reply for which it ran out isn't begun. A request that goes on to another CSE is carried over
+/// so. Whenever more is read, and where the connection ends, the replies to all frames that were
+/// read are written. While a frame that was read stands to be answered, the replies before it wait,
+/// fewer than 16,384 bytes of them, and one call of the connection writes all that wait, with the
+/// last one behind them. Where memory runs out in the event of a request, its reply says so and the
+/// connection goes on; elsewhere it ends the connection, and a reply for which it ran out isn't
+/// begun. A request that goes on to another CSE is carried over
 /// the link once the desk has answered, and its exchange gives its reply; where memory runs out in
 /// carrying it, the reply says so.
 pub fn serve_connection<D, X, C, L>(

@@ -4,8 +4,8 @@
 //!
 //! Callers hand in a desk with a seat at it, the connection, a clock and a link. The contract says
 //! which frames were read, which entries the seat added, and that the output is the replies which
-//! their outcomes give, each written by one put. It also says what was carried over the link, and
-//! why the connection ended (`specs/Connection`). An `Answerer` does so by any `Replier`
+//! their outcomes give, in order, some of them by each put. It also says what was carried over the
+//! link, and why the connection ended (`specs/Connection`). An `Answerer` does so by any `Replier`
 //! (desk_replies), whose rule says what is asked for a request and how it is answered by that.
 //! `HttpBinding` is HTTP as a `Binding`. `serve_by` takes a door, benches and a binding: the seat
 //! which comes back has gained what attending to connections gave (`specs/Attending`), and the
@@ -32,6 +32,7 @@ mod replying;
 mod sending;
 mod served;
 mod serving;
+mod waiting;
 mod wire;
 
 pub use alone::{send_alone, serve_alone};
@@ -42,5 +43,6 @@ pub use connection::{Answerer, Ended, serve_connection};
 pub use sending::{MOST_ITEMS, send_notes, send_to};
 pub use served::Served;
 pub use serving::{OfRequests, serve, serve_by};
+pub use waiting::{put_if_much, put_waiting};
 pub use wire::Wire;
 pub use workers::ServeFault;

@@ -63,9 +63,9 @@ impl<S: Source, O: Sink> Connection for Wire<'_, S, O> {
 }
 
 impl<S: Source, O: Sink> ReplyObserver for Wire<'_, S, O> {
-    fn replied(&self, _: &Frame, _: Option<&BindFault>, _: &Reply) {}
+    fn replied(&self, _: &Frame, _: Option<&BindFault>, _: &Reply, _: &[u8]) {}
 
-    fn refused(&self, _: &Reply) {}
+    fn refused(&self, _: &Reply, _: &[u8]) {}
 
     fn answered(&self, _: &[u8], _: Rsc) {}
 }

@@ -18,6 +18,7 @@ use service_observer::ReplyObserver;
 use std::alloc::{AllocError, Global};
 use std::io::{Eprint, ErrorKind, Read, Write};
 use std::net::{Shutdown, SocketAddr, TcpStream};
+use std::sync::atomic::{AtomicU64, Ordering};
 use std::time::{Clock, Duration};
 use std::{io, str};
 
@@ -38,9 +39,9 @@ const DRAINING: u64 = 1_000;
 /// and no more than so many bytes.
 const MOST_DRAINED: usize = 65_536;
 
-/// What a line says of a reply that was written.
+/// What a line says of a reply.
 #[derive(Clone, Copy, Debug)]
-struct WrittenReply {
+struct SaidReply {
     /// The status of HTTP; 0 where it has none.
     status: u16,
     /// How many bytes it has.
@@ -58,14 +59,16 @@ pub struct TcpConn<R: Clock + Eprint + Copy> {
     peer: SocketAddr,
     /// The moment at which the message that is being read began, in milliseconds.
     begun: Option<u64>,
-    /// The moment from which on the server has been at work, in microseconds.
-    busy: u64,
+    /// The moment from which on the server has been at work on what it says next, in microseconds.
+    busy: AtomicU64,
+    /// So many replies were said since the last put.
+    said: AtomicU64,
+    /// So many bytes were put last.
+    put_length: usize,
     /// The next read waits for what is left for a message.
     is_pressed: bool,
     /// The client has ended its writing side, or the connection is closed for another client.
     is_ended: bool,
-    /// The reply that was written last.
-    reply: WrittenReply,
     /// The front of what was read since the last message began, where replies are logged.
     heard: Vec<u8>,
     read_faults: u64,
@@ -196,9 +199,10 @@ impl<R: Clock + Eprint + Copy> Drop for TcpConn<R> {
             peer: _,
             begun,
             busy: _,
+            said: _,
+            put_length: _,
             is_pressed: _,
             is_ended,
-            reply: _,
             heard: _,
             read_faults,
             write_faults,
@@ -231,14 +235,11 @@ impl<R: Clock + Eprint + Copy> TcpConn<R> {
             stream,
             peer,
             begun: None,
-            busy: 0,
+            busy: AtomicU64::new(0),
+            said: AtomicU64::new(0),
+            put_length: 0,
             is_pressed: false,
             is_ended: false,
-            reply: WrittenReply {
-                status: 0,
-                length: 0,
-                micros: 0,
-            },
             heard,
             read_faults: 0,
             write_faults: 0,
@@ -278,7 +279,7 @@ impl<R: Clock + Eprint + Copy> TcpConn<R> {
         if self.log.has_requests() {
             let room = MOST_LOGGED.saturating_sub(self.heard.len());
             let _ = self.heard.extend_from_slice(front(bytes, room));
-            self.busy = micros_of(now);
+            self.busy.store(micros_of(now), Ordering::SeqCst);
         }
     }
 
@@ -294,48 +295,73 @@ impl<R: Clock + Eprint + Copy> TcpConn<R> {
         Ok(())
     }
 
-    /// The request that these bytes answer is done.
-    fn count_reply(&mut self, bytes: &[u8])
+    /// These bytes were put. The requests that were read are answered.
+    fn count_put(&mut self, bytes: &[u8])
         ensures reads { self.new.read_faults ≡ self.old.read_faults }
         ensures writes { self.new.write_faults ≡ self.old.write_faults }
     {
-        if let Some(figures) = self.log.figures() {
-            if self.begun.is_some() {
-                figures.end_request();
-            }
-            figures.reply(status_in(bytes) as u64 / 100);
+        self.put_length = bytes.len();
+        if self.said.swap(0, Ordering::SeqCst) == 0 {
+            self.count_reply(bytes);
+        }
+        if let Some(figures) = self.log.figures()
+            && self.begun.is_some()
+        {
+            figures.end_request();
         }
         self.begun = None;
     }
 
-    /// Keeps what a line says of the reply that these bytes are.
-    fn note_reply(&mut self, bytes: &[u8])
-        ensures reads { self.new.read_faults ≡ self.old.read_faults }
-        ensures writes { self.new.write_faults ≡ self.old.write_faults }
-    {
-        if !self.log.has_requests() {
-            return;
-        }
+    /// What a line says of the reply with these bytes, on which the server worked until now.
+    fn measure(&self, text: &[u8]) -> SaidReply {
         let now = micros_of(since_start(&self.log.runtime()));
-        self.reply = WrittenReply {
-            status: status_in(bytes),
-            length: bytes.len(),
-            micros: now.saturating_sub(self.busy),
-        };
-        self.busy = now;
+        let busy = self.busy.swap(now, Ordering::SeqCst);
+        SaidReply {
+            status: status_in(text),
+            length: text.len(),
+            micros: now.saturating_sub(busy),
+        }
+    }
+
+    /// The same of a message of JSON, which was put last.
+    fn measure_put(&self) -> SaidReply {
+        SaidReply {
+            status: 0,
+            length: self.put_length,
+            micros: self.measure(b"").micros,
+        }
+    }
+
+    /// Counts a reply by its status of HTTP.
+    fn count_reply(&self, text: &[u8]) {
+        if let Some(figures) = self.log.figures() {
+            figures.reply(status_in(text) as u64 / 100);
+        }
+    }
+
+    /// A reply with these bytes was said. It is counted here, and not once more where it is put.
+    fn count_said(&self, text: &[u8]) {
+        self.said.fetch_add(1, Ordering::SeqCst);
+        self.count_reply(text);
     }
 
     /// What a line says of a message with this start, from this originator: the client, the
     /// originator, the start, and how it was answered: the status of HTTP and the code of oneM2M,
     /// the bytes of the reply, and the time that it took.
-    fn line_of(&self, originator: &str, start: &str, rsc: Rsc) -> Result<String, AllocError> {
+    fn line_of(
+        &self,
+        originator: &str,
+        start: &str,
+        rsc: Rsc,
+        said: SaidReply,
+    ) -> Result<String, AllocError> {
         let alloc = self.log.allocator();
         let peer = &self.peer;
-        let WrittenReply {
+        let SaidReply {
             status,
             length,
             micros,
-        } = self.reply;
+        } = said;
         let code = rsc.number();
         let status = match status {
             0 => String::from_str(alloc, "-")?,
@@ -352,12 +378,13 @@ impl<R: Clock + Eprint + Copy> TcpConn<R> {
         frame: &Frame,
         fault: Option<&BindFault>,
         reply: &Reply,
+        said: SaidReply,
     ) -> Result<String, AllocError> {
         let alloc = self.log.allocator();
         let originator = originator_of(alloc, frame)?;
         let start = start_of(alloc, frame)?;
         let rsc = reply.parts().rsc;
-        let line = self.line_of(originator.as_str(), start.as_str(), rsc)?;
+        let line = self.line_of(originator.as_str(), start.as_str(), rsc, said)?;
         let why = match fault {
             Some(fault) => Some(why_of(alloc, fault)?),
             None => why_refused(alloc, frame, rsc)?,
@@ -372,11 +399,12 @@ impl<R: Clock + Eprint + Copy> TcpConn<R> {
         payload: &[u8],
         request: Option<Request>,
         rsc: Rsc,
+        said: SaidReply,
     ) -> Result<String, AllocError> {
         let alloc = self.log.allocator();
         let Some(request) = request else {
             let heard = printable(alloc, payload)?;
-            let line = self.line_of("-", "- -", rsc)?;
+            let line = self.line_of("-", "- -", rsc, said)?;
             let (line, heard) = (line.as_str(), heard.as_str());
             return format!(in alloc; "{line} no request: {heard}");
         };
@@ -388,15 +416,15 @@ impl<R: Clock + Eprint + Copy> TcpConn<R> {
         let target = printable(alloc, request.to.entries())?;
         let (operation, target) = (operation_of(request.op), target.as_str());
         let start = format!(in alloc; "{operation} {target}")?;
-        let line = self.line_of(originator.as_str(), start.as_str(), rsc)?;
+        let line = self.line_of(originator.as_str(), start.as_str(), rsc, said)?;
         with_reason(alloc, line, why_refused_in(alloc, request, rsc)?)
     }
 
     /// A line for the reply to what is no message. It says what was read since the last reply.
-    fn line_for_none(&self, reply: &Reply) -> Result<String, AllocError> {
+    fn line_for_none(&self, reply: &Reply, said: SaidReply) -> Result<String, AllocError> {
         let alloc = self.log.allocator();
         let heard = printable(alloc, &self.heard)?;
-        let line = self.line_of("-", "- -", reply.parts().rsc)?;
+        let line = self.line_of("-", "- -", reply.parts().rsc, said)?;
         let (line, heard) = (line.as_str(), heard.as_str());
         format!(in alloc; "{line} no message: {heard}")
     }
@@ -517,8 +545,7 @@ impl<R: Clock + Eprint + Copy> Sink for TcpConn<R> {
     fn put(&mut self, bytes: &[u8]) -> Result<(), Failed> {
         match self.write_in_time(bytes) {
             Ok(()) => {
-                self.count_reply(bytes);
-                self.note_reply(bytes);
+                self.count_put(bytes);
                 Ok(())
             }
             Err(error) => {
@@ -537,17 +564,19 @@ impl<R: Clock + Eprint + Copy> Connection for TcpConn<R> {
 }
 
 impl<R: Clock + Eprint + Copy> ReplyObserver for TcpConn<R> {
-    fn replied(&self, frame: &Frame, fault: Option<&BindFault>, reply: &Reply) {
+    fn replied(&self, frame: &Frame, fault: Option<&BindFault>, reply: &Reply, text: &[u8]) {
+        self.count_said(text);
         if self.log.has_requests()
-            && let Ok(line) = self.line_for(frame, fault, reply)
+            && let Ok(line) = self.line_for(frame, fault, reply, self.measure(text))
         {
             self.log.tell(line.as_str());
         }
     }
 
-    fn refused(&self, reply: &Reply) {
+    fn refused(&self, reply: &Reply, text: &[u8]) {
+        self.count_said(text);
         if self.log.has_requests()
-            && let Ok(line) = self.line_for_none(reply)
+            && let Ok(line) = self.line_for_none(reply, self.measure(text))
         {
             self.log.tell(line.as_str());
         }
@@ -559,7 +588,8 @@ impl<R: Clock + Eprint + Copy> ReplyObserver for TcpConn<R> {
         }
         if self.log.has_requests() {
             let request = payload_request(self.log.allocator(), payload);
-            if let Ok(line) = self.line_for_payload(payload, request, rsc) {
+            let said = self.measure_put();
+            if let Ok(line) = self.line_for_payload(payload, request, rsc, said) {
                 self.log.tell(line.as_str());
             }
         }

@@ -43,4 +43,4 @@ pub use reply::of_reply;
 pub use request::{created_type, to_request, to_request_in, value_in};
 pub use room::{BodyRoom, ReplyRoom};
 pub use std::alloc::AllocError as OutOfMemory;
-pub use writing::write_reply_text;
+pub use writing::{push_reply_text, write_reply_text};

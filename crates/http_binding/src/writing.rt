@@ -1,6 +1,6 @@
 //! The bytes of a reply, and their way into a sink.
-ghost use Rattle.std.specs.Prelude.{◌≡◌, ◌≢◌, ◌≤◌, ◌+◌, ◌-◌, ◌++◌, Err, IfOk, OnOk, codes, length};
-ghost use Rattle.std.specs.Prelude.{[], None, IfSome, drop};
+ghost use Rattle.std.specs.Prelude.{◌≡◌, ◌≢◌, ◌≤◌, ◌+◌, ◌-◌, ◌++◌, Err, IfOk, OnErr, OnOk, codes};
+ghost use Rattle.std.specs.Prelude.{[], None, IfSome, drop, length};
 ghost use Rattle.std.specs.Fmt.{decimal};
 ghost use Rattle.std.specs.Io.KnownBytes.{Appends};
 ghost use Rattle.m2m_io.specs.Counts.{CountsFault};
@@ -317,4 +317,25 @@ pub fn write_reply_text<K: Sink>(
     let put = sink.put(bytes.as_slice());
     room.keep(alloc, bytes.buffer, bytes.spare);
     Ok(put?)
+}
+
+/// Appends the bytes of a reply (TS-0009, 6.3 to 6.5), or leaves the text as it was. It says
+/// whether the connection closes behind it. It is written in the room of those before it.
+pub fn push_reply_text(
+    alloc: Global,
+    reply: &Reply,
+    close: bool,
+    room: &mut ReplyRoom,
+    text: &mut Vec<u8>,
+) -> Result<(), OutOfMemory>
+    ensures ok { OnOk result (text.new.items ≡ text.old.items ++ reply_text reply.now close) }
+
+    // The content that was written is sound, as each value is that is kept.
+    ensures sound { OnOk result (IfSome reply.now.pc IsSound) }
+    ensures err { OnErr result (text.new.items ≡ text.old.items) }
+{
+    let written = reply_bytes(alloc, reply, close, room)?;
+    let pushed = text.extend_from_slice(written.as_slice());
+    room.keep(alloc, written.buffer, written.spare);
+    Ok(pushed?)
 }

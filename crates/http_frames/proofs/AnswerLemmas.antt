@@ -1,6 +1,7 @@
 -- What a call answers, by the one list of frames that begin the stream.
-use Rattle.std.proofs.Common.{◌≡◌, ◌≢◌, ℕ, ◌<◌, length, length-append, List, [], ◌∷◌, ◌++◌, Option, None, Some, Result, Ok, Err, refl, sym, ap, subst, ◌∙◌, arith, append_assoc}
-use Rattle.std.specs.Io.KnownBytes.{IsAtEnd}
+use Rattle.std.proofs.Common.{◌≡◌, ◌≢◌, ℕ, ◌<◌, Bool, true, false, length, length-append, List, [], ◌∷◌, ◌++◌, Option, None, Some, Result, Ok, Err, refl, sym, ap, subst, ◌∙◌, arith, append_assoc, append-nil, inl}
+use Rattle.std.proofs.lemmas.Bool.{false≢true}
+use Rattle.std.specs.Io.KnownBytes.{Consumes, IsAtEnd}
 use Rattle.http_frames.specs.declared.frame.Side.{Side}
 use Rattle.http_frames.specs.declared.frame.Frame.{Frame}
 use Rattle.http_frames.specs.declared.frame.Next.{Next}
@@ -8,7 +9,7 @@ use Rattle.http_frames.specs.declared.frame.Next.TheVariants.{Message, End}
 use Rattle.http_frames.specs.declared.fault.FrameFault.{FrameFault}
 use Rattle.http_frames.specs.declared.fault.FrameFault.TheVariants.{NoFrame, ReadFault, OutOfMemory}
 use Rattle.http_frames.specs.Stream.{BeginsWithFrame, BeginsWithFrames, HasNoFrame, Frames}
-use Rattle.http_frames.specs.Inbox.{Reads, GivesFrame, GivesAsNeeded, HoldsNoFrame, IfMessage, UnlessMessage, AnswersNext, GivesNext, stream_of, most_held}
+use Rattle.http_frames.specs.Inbox.{Intake, Reads, GivesFrame, GivesAsNeeded, HoldsNoFrame, IfHeld, IfMessage, UnlessMessage, AnswersNext, GivesNext, TakesNext, is_refusal, stream_of, most_held}
 use Rattle.http_frames.specs.Waiting.{piece_limit, ReadsAsNeeded}
 use Rattle.http_frames.proofs.FrameLemmas.{BeginsWith_unique, BeginsWithFrame-append}
 use Rattle.http_frames.proofs.LookLemmas.{some_bytes}
@@ -109,3 +110,72 @@ stays_few side left rest held now src after (Ok (Message frame)) g u small =
     omega (arith, ap length begins.stream_is, length-append begins.bytes now)
 stays_few side left rest held now src after (Ok End) g u small = stays_small side held now src after u small
 stays_few side left rest held now src after (Err fault) g u small = stays_small side held now src after u small
+
+-- ---- the frame that is held
+
+-- nothing was read
+pub reads_nothing : (left : Option (List ℕ)) (held now : List ℕ) → now ≡ held → Reads left left held now
+reads_nothing left held now same = record { read = []; consumed = none left; held_is = same ∙ sym (append-nil held) }
+  where
+    none : (l : Option (List ℕ)) → Consumes l l []
+    none None = tt
+    none (Some s) = refl
+
+kept_reads : (left : Option (List ℕ)) (held now : List ℕ) (next : Result Next FrameFault) → UnlessMessage next (now ≡ held) → UnlessMessage next (Reads left left held now)
+kept_reads left held now (Ok (Message frame)) same = tt
+kept_reads left held now (Ok End) same = reads_nothing left held now same
+kept_reads left held now (Err fault) same = reads_nothing left held now same
+
+kept_needed : (side : Side) (held now : List ℕ) (next : Result Next FrameFault) → UnlessMessage next (now ≡ held) → UnlessMessage next (ReadsAsNeeded side held now held held)
+kept_needed side held now (Ok (Message frame)) same = tt
+kept_needed side held now (Ok End) same = inl (same, refl)
+kept_needed side held now (Err fault) same = inl (same, refl)
+
+-- an answer for which nothing was read
+held_next : (side : Side) (left : Option (List ℕ)) (held now : List ℕ) (was is : Bool) (next : Result Next FrameFault) → was ≡ false → is ≡ is_refusal next
+    → IfMessage next (GivesAsNeeded side left left held now held held) → UnlessMessage next (now ≡ held)
+    → next ≢ Ok End → (next ≡ Err NoFrame → HoldsNoFrame side now left) → next ≢ Err ReadFault
+    → TakesNext side left left (record { held = held; refused = was }) (record { held = now; refused = is }) next
+held_next side left held now was is next open_yet refuses message same goes none other =
+    let given = message_given side left left held now held held next message in
+    let kept = kept_reads left held now next same in record {
+      frames = λ o. gives_next side next left left held now given kept (λ e. absurd (goes e)) none;
+      message = given;
+      kept = kept;
+      end = λ e. absurd (goes e);
+      no_frame = λ o e. none e;
+      refused = refuses;
+      over = λ closed. absurd (false≢true (sym open_yet ∙ closed));
+      waiting = λ e. absurd (other e);
+      short = few_left side left left held now held held next message;
+      small = stays_few side left left held now held held next message (kept_needed side held now next same);
+    }
+
+pub held_answers : (side : Side) (left : Option (List ℕ)) (held now : List ℕ) (was is : Bool) (result : Result (Option Frame) FrameFault) → was ≡ false
+    → IfHeld result (λ next. is ≡ is_refusal next)
+    → IfHeld result (λ next. IfMessage next (GivesAsNeeded side left left held now held held)) → IfHeld result (λ next. UnlessMessage next (now ≡ held))
+    → (result ≡ Err NoFrame → HoldsNoFrame side now left) → result ≢ Err ReadFault
+    → IfHeld result (λ next. TakesNext side left left (record { held = held; refused = was }) (record { held = now; refused = is }) next)
+held_answers side left held now was is (Ok (Some frame)) open_yet refuses message same none other =
+    held_next side left held now was is (Ok (Message frame)) open_yet refuses message same (λ e. cc) (λ e. cc) (λ e. cc)
+held_answers side left held now was is (Ok None) open_yet refuses message same none other = tt
+held_answers side left held now was is (Err NoFrame) open_yet refuses message same none other =
+    held_next side left held now was is (Err NoFrame) open_yet refuses message same (λ e. cc) (λ e. none refl) (λ e. cc)
+held_answers side left held now was is (Err ReadFault) open_yet refuses message same none other = absurd (other refl)
+held_answers side left held now was is (Err OutOfMemory) open_yet refuses message same none other =
+    held_next side left held now was is (Err OutOfMemory) open_yet refuses message same (λ e. cc) (λ e. cc) (λ e. cc)
+
+-- after a refusal
+pub refused_answers : (side : Side) (left : Option (List ℕ)) (intake : Intake) → intake.refused ≡ true → TakesNext side left left intake intake (Err NoFrame)
+refused_answers side left intake closed = record {
+  frames = λ o. absurd (false≢true (sym o ∙ closed));
+  message = tt;
+  kept = reads_nothing left intake.held intake.held refl;
+  end = λ e. cc;
+  no_frame = λ o e. absurd (false≢true (sym o ∙ closed));
+  refused = closed;
+  over = λ c. refl;
+  waiting = λ e. cc;
+  short = λ none. tt;
+  small = λ few. few;
+}

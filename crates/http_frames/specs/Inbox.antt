@@ -1,6 +1,6 @@
 -- What an inbox holds, and what its calls answer.
 use Rattle.std.specs.Prelude.{◌≡◌, ◌≢◌, ℕ, Bool, true, false, List, [], ◌∷◌, ◌++◌, length, ◌+◌}
-use Rattle.std.specs.Prelude.{◌<◌, Option, Result, Ok, Err, IfSome, ⊤}
+use Rattle.std.specs.Prelude.{◌<◌, Option, None, Some, Result, Ok, Err, IfSome, ⊤}
 use Rattle.std.specs.Io.KnownBytes.{Consumes, IsAtEnd, prepend_known}
 use Rattle.http_frames.specs.declared.frame.Side.{Side}
 use Rattle.http_frames.specs.declared.frame.Frame.{Frame}
@@ -38,6 +38,13 @@ abbrev pub UnlessMessage : Result Next FrameFault → Type 0 → Type 0
 UnlessMessage (Ok (Message frame)) P = ⊤
 UnlessMessage (Ok End) P = P
 UnlessMessage (Err fault) P = P
+
+-- P of what is answered where the frame that is held is asked for, as of an answer to a call for the
+-- next frame, unless more has to be read
+abbrev pub IfHeld : Result (Option Frame) FrameFault → (Result Next FrameFault → Type 0) → Type 0
+IfHeld (Ok (Some frame)) P = P (Ok (Message frame))
+IfHeld (Ok None) P = ⊤
+IfHeld (Err fault) P = P (Err fault)
 
 -- no frame can stand here
 abbrev pub is_refusal : Result Next FrameFault → Bool

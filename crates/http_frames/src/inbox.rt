@@ -1,5 +1,5 @@
 //! Frames, one after another, out of what a source gives.
-ghost use Rattle.std.specs.Prelude.{◌≡◌, ◌≢◌, ◌<◌, ◌≤◌, [], false, true, None, Ok};
+ghost use Rattle.std.specs.Prelude.{◌≡◌, ◌≢◌, ◌<◌, ◌≤◌, ℕ, List, [], Option, false, true, None, Ok};
 ghost use Rattle.std.specs.Prelude.{Err, IfOk, OnOk, OnErr, length, drop};
 ghost use Rattle.std.specs.Io.KnownBytes.{IsAtEnd};
 ghost use Rattle.m2m_io.specs.Counts.{CountsFault};
@@ -7,7 +7,7 @@ ghost use Rattle.http_frames.specs.Frame.{lines_limit};
 ghost use Rattle.http_frames.specs.Stream.{HasNoFrame};
 ghost use Rattle.http_frames.specs.Spans.{IsFrameAt, AreWithin, frame_at};
 ghost use Rattle.http_frames.specs.Inbox.{Reads, GivesAsNeeded, HoldsNoFrame, IfMessage};
-ghost use Rattle.http_frames.specs.Inbox.{UnlessMessage, is_refusal, TakesNext};
+ghost use Rattle.http_frames.specs.Inbox.{IfHeld, UnlessMessage, is_refusal, TakesNext};
 ghost use Rattle.http_frames.specs.Waiting.{ReadsAsNeeded};
 ghost use Rattle.http_frames.specs.Settled.{IfSettled, OnSettledEnd, OnSettledNever, IsNoFrame};
 
@@ -138,10 +138,48 @@ fn read_next<S: Source>(
     }
 }
 
+/// Takes the frame that stands whole in the bytes held; none where more has to be read, so that it
+/// is settled what stands there.
+#[tactic(auto, using(crate::proofs::LookLemmas::walked_none_yet))]
+fn take_held(
+    held: &mut ReadBuffer,
+    rooms: &mut Rooms,
+    headers: &mut [HeaderSpan],
+    alloc: Global,
+    side: Side,
+) -> Result<Option<Frame>, FrameFault>
+    requires { length headers.old ≡ lines_limit }
+    ensures message { (left : Option (List ℕ)) → IfHeld result (λ next. IfMessage next
+        (GivesAsNeeded side left left held.old held.new held.old held.old)) }
+    ensures kept { IfHeld result (λ next. UnlessMessage next (held.new ≡ held.old)) }
+    ensures none { result ≡ Ok None → (held.new ≡ held.old) × HasNoFrame side held.old }
+    ensures no_frame { result ≡ Err FrameFault.NoFrame
+        → (left : Option (List ℕ)) → HoldsNoFrame side held.new left }
+    ensures other { result ≢ Err FrameFault.ReadFault }
+{
+    let mut walked = Walked::new(alloc);
+    let look = look_for_frame(side, held.bytes(), headers, &mut walked)?;
+    match look {
+        FrameStatus::Whole(spans) => {
+            let frame = take_frame(held, rooms, alloc, headers, spans, walked.body)?;
+            Ok(Some(frame))
+        }
+        FrameStatus::Never => Err(FrameFault::NoFrame),
+        FrameStatus::Short(_) => Ok(None),
+    }
+}
+
 fn is_refusal(next: &Result<Next, FrameFault>) -> bool
     ensures { result ≡ is_refusal next.now }
 {
     matches!(next, Err(FrameFault::NoFrame))
+}
+
+fn is_refused(held: &Result<Option<Frame>, FrameFault>) -> bool
+    ensures answer { IfHeld held.now (λ next. result ≡ is_refusal next) }
+    ensures none { held.now ≡ Ok None → result ≡ false }
+{
+    matches!(held, Err(FrameFault::NoFrame))
 }
 
 /// The bytes of a stream that were read and are not yet given in a frame, and some room for the
@@ -222,6 +260,33 @@ impl Inbox {
         );
         self.refused = is_refusal(&next);
         next
+    }
+
+    /// The request that stands whole in the bytes held; none where more has to be read, so that it
+    /// is settled what stands there. Nothing is read. Whatever the source has left, the answer is
+    /// that of `next_request`, which reads nothing then.
+    pub fn held_request(&mut self, alloc: Global) -> Result<Option<Frame>, FrameFault>
+        ensures next { (left : Option (List ℕ)) → IfHeld result
+            (λ next. TakesNext Side.Request left left self.old self.new next) }
+        ensures none { result ≡ Ok None
+            → (self.new ≡ self.old) × HasNoFrame Side.Request self.old.held }
+
+        // After NoFrame the inbox stays as it is.
+        ensures over { self.old.refused ≡ true → self.new ≡ self.old }
+        ensures other { result ≢ Err FrameFault.ReadFault }
+    {
+        if self.refused {
+            return Err(FrameFault::NoFrame);
+        }
+        let held = take_held(
+            &mut self.held,
+            &mut self.rooms,
+            &mut self.headers,
+            alloc,
+            Side::Request,
+        );
+        self.refused = is_refused(&held);
+        held
     }
 
     /// The next request of the stream, which is the bytes held and then those that the source has

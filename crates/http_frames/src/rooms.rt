@@ -48,12 +48,12 @@ impl Rooms {
         }
     }
 
-    /// A text of these bytes. That of none needs no buffer.
+    /// A text of these bytes. That of a few needs no buffer.
     pub(crate) fn text(&mut self, alloc: Global, bytes: &[u8]) -> Result<Text, AllocError>
         ensures { IfOk result (λ text. text ≡ bytes.now) }
     {
-        if bytes.is_empty() {
-            return Ok(Text::of(Vec::new(alloc)));
+        if bytes.len() <= Text::ROOM {
+            return Text::from_slice(alloc, bytes);
         }
         let mut buffer = self.buffer(alloc, bytes.len())?;
         buffer.extend_from_slice(bytes)?;
@@ -75,12 +75,13 @@ impl Rooms {
 
     /// Keeps the room of a text that is done with, if there is some and it is little.
     fn keep(&mut self, text: Text) {
-        let mut buffer = text.into_vec();
+        let Some(buffer) = text.into_room() else {
+            return;
+        };
         if 0 < buffer.capacity()
             && buffer.capacity() <= MOST_ROOM
             && self.buffers.len() < MOST_BUFFERS
         {
-            buffer.clear();
             let _ = self.buffers.push(buffer);
         }
     }

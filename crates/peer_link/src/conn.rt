@@ -68,9 +68,9 @@ impl Connection for MemPair {
 }
 
 impl ReplyObserver for MemPair {
-    fn replied(&self, _: &Frame, _: Option<&BindFault>, _: &Reply) {}
+    fn replied(&self, _: &Frame, _: Option<&BindFault>, _: &Reply, _: &[u8]) {}
 
-    fn refused(&self, _: &Reply) {}
+    fn refused(&self, _: &Reply, _: &[u8]) {}
 
     fn answered(&self, _: &[u8], _: Rsc) {}
 }

@@ -13,9 +13,9 @@ use Rattle.notify_outbox.specs.Outbox.{without_first}
 use Rattle.notify_outbox.specs.declared.item.Item.{Item}
 use Rattle.entity_model.specs.Entity.{EntityData}
 use Rattle.primitive_replay.specs.Script.{Replays, Writes, WritesBeforeItem, WritesReplies, WritesScript, lines_of_items, lines_of_replies, note_line, reply_line, script}
-use Rattle.primitive_replay.specs.Together.{PutsWithin, WritesAll}
+use Rattle.cse_server.specs.Together.{PutsWithin, WritesAll}
 use Rattle.primitive_replay.specs.Way.{PutsFront, ReplaysFrom, WritesText}
-use Rattle.primitive_replay.proofs.TogetherLemmas.{PutsWithin-append, within}
+use Rattle.cse_server.proofs.TogetherLemmas.{PutsWithin-append, within}
 
 -- ---- the first item
 

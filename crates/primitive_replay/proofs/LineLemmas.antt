@@ -1,5 +1,5 @@
 -- Where lines end, and what the lines of a text are.
-use Rattle.std.proofs.Common.{◌≡◌, ◌≢◌, ℕ, ◌+◌, ◌-◌, ◌<◌, ◌≤◌, false, List, [], ◌∷◌, ◌++◌, length, take, drop, refl, ap, ◌∙◌, inl, inr, arith, length-append}
+use Rattle.std.proofs.Common.{◌≡◌, ◌≢◌, ℕ, ◌+◌, ◌-◌, ◌<◌, ◌≤◌, Bool, true, false, None, Some, List, [], ◌∷◌, ◌++◌, length, take, drop, refl, sym, ap, ◌∙◌, inl, inr, arith, length-append}
 use Rattle.std.proofs.lemmas.List.{take-append-le, drop-append-le, get_or_append_left, get_or-append_right, length-take}
 use Rattle.std.proofs.lemmas.List.Sums.{position_or_len_is, fails_before_first, passes_at_first, prefix_len-le-length}
 use Rattle.std.proofs.lemmas.List.Splits.{slice_split_first, slice_split_none, length-slice_split}
@@ -7,6 +7,7 @@ use Rattle.std.proofs.lemmas.Bool.{cases_lt}
 use Rattle.std.proofs.lemmas.Bool.Decides.{nat_tests}
 use Rattle.std.specs.List.{All, slice_split, before_first, after_first}
 use Rattle.std.specs.Str.Lines.{lines, lines_of_parts, strip_carriage_return}
+use Rattle.memchr.specs.Find.{IsFirstByte, is_byte}
 use Rattle.primitive_replay.specs.Front.{is_end, end_of, HasNoEnd}
 
 -- ---- ends
@@ -21,6 +22,19 @@ end_found xs more found =
     (omega (arith, length-append xs more))
     (λ k h. let within : k < length xs = omega arith in rw get_or_append_left (fails_before_first is_end xs k 0 h))
     (λ _. rw get_or_append_left (passes_at_first is_end xs 0 found))
+
+unpassed : (b : Bool) → (b ≡ true → ⊥) → b ≡ false
+unpassed true h = absurd (h refl)
+unpassed false h = refl
+
+-- the place that a search gives is the first, and where it gives none there is none
+pub end_searched : (bytes : List ℕ) (end : ℕ) → IsFirstByte (is_byte 10) bytes (Some end) → end ≡ end_of bytes
+end_searched bytes end found =
+    sym (position_or_len_is is_end bytes end 0 (omega (arith, found.0.high)) (λ k below. unpassed _ (found.0.before k (omega arith) below)) (λ _. found.1))
+
+pub none_searched : (bytes : List ℕ) → IsFirstByte (is_byte 10) bytes None → length bytes ≡ end_of bytes
+none_searched bytes none =
+    sym (position_or_len_is is_end bytes (length bytes) 0 (omega arith) (λ k below. unpassed _ (none k (omega arith) below)) (λ past. absurd (omega arith)))
 
 -- where none is found, the first is that of what follows
 pub end_missing : (xs more : List ℕ) → HasNoEnd xs → end_of (xs ++ more) ≡ length xs + end_of more

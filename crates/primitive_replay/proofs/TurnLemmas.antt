@@ -1,5 +1,5 @@
 -- One line taken, and what stands next.
-use Rattle.std.proofs.Common.{◌≡◌, ◌≢◌, ◌⊎◌, ℕ, ◌+◌, ◌≤◌, ◌∙◌, List, [], ◌∷◌, ◌++◌, length, Option, Some, None, IfSome, MatchOption, Err, inl, inr, refl, sym, ap, subst, arith, append-nil}
+use Rattle.std.proofs.Common.{◌≡◌, ◌≢◌, ◌⊎◌, ℕ, ◌+◌, ◌≤◌, ◌∙◌, List, [], ◌∷◌, ◌++◌, length, Option, Some, None, IfSome, MatchOption, Err, inl, inr, refl, sym, ap, subst, arith}
 use Rattle.std.proofs.lemmas.Option.{same_Some}
 use Rattle.std.specs.Io.KnownBytes.{IsAtEnd, Keeps, prepend_known}
 use Rattle.std.specs.Str.Lines.{lines}
@@ -17,13 +17,15 @@ use Rattle.primitive_replay.specs.Front.{HasNoEnd, held_limit}
 use Rattle.primitive_replay.specs.Script.{AsksLines, StopsRightly, reply_line}
 use Rattle.primitive_replay.specs.Lines.{line_at, line_read}
 use Rattle.primitive_replay.specs.Stream.{BeginsBadly, BeginsWithLines, BeginsWithTexts, LeadsOver, LeadsTo, NextIs, HoldsLittle, TakesOff}
-use Rattle.primitive_replay.specs.Together.{PutsAll, PutsLast, SaysText}
+use Rattle.cse_server.specs.Together.{PutsAll, PutsLast}
+use Rattle.primitive_replay.specs.Together.{SaysText}
 use Rattle.primitive_replay.specs.Way.{EndsOn, RepliesTo, ReplaysFrom, ReplaysUpTo, SaysOn, Stands, StandsOn, StopsFrom, TakesLine, WritesText, fault_status}
 use Rattle.primitive_replay.specs.declared.fault.LineFault.{LineFault}
 use Rattle.primitive_replay.specs.declared.fault.LineFault.TheVariants.{Bad, ReadFault as Unread, OutOfMemory as Starved}
 use Rattle.primitive_replay.specs.declared.line.Line.{Line}
 use Rattle.primitive_replay.specs.declared.line.Line.TheVariants.{Empty, Reading, Ask}
-use Rattle.primitive_replay.proofs.TogetherLemmas.{end_says, keep_none, part_stands, put_stands, says_one, stands_still, within_none}
+use Rattle.cse_server.proofs.TogetherLemmas.{keep_none, within_none}
+use Rattle.primitive_replay.proofs.TogetherLemmas.{end_says, part_stands, put_stands, says_one, stands_still}
 use Rattle.primitive_replay.proofs.WayLemmas.{ReplaysUpTo-then, StopsFrom-then}
 
 -- ---- one line
@@ -372,7 +374,7 @@ starved_first e left out readings told = record {
 -- ---- once what waits is put
 
 end_stops : (place : ℕ) (ended status : Status) (replies : List ReplyParts) (waiting : List ℕ) (old mid new : SinkTold) (rest : List ℕ) (left : Option (List ℕ))
-    → Stands (Some ended) replies waiting old mid → PutsLast ended status waiting mid new → StopsRightly place ended rest left → StopsRightly place status rest left
+    → Stands (Some ended) replies waiting old mid → PutsLast WriteFault ended status waiting mid new → StopsRightly place ended rest left → StopsRightly place status rest left
 end_stops place ended status replies waiting old mid new rest left s last stops = elim last [
   | inl failed ↦ subst (λ (e : Status). StopsRightly place e rest left) (failed.0 ∙ sym failed.1) stops
   | inr on ↦ elim on.1 [
@@ -391,7 +393,7 @@ end_stops place ended status replies waiting old mid new rest left s last stops 
     cut_stops BadStream s stops some = absurd s
 
 end_stops_on : (place : ℕ) (ended status : Status) (replies : List ReplyParts) (waiting : List ℕ) (old mid new : SinkTold) (heard : List Line) (stream left : Option (List ℕ))
-    → Stands (Some ended) replies waiting old mid → PutsLast ended status waiting mid new → IfSome stream (EndsOn place ended heard left) → IfSome stream (EndsOn place status heard left)
+    → Stands (Some ended) replies waiting old mid → PutsLast WriteFault ended status waiting mid new → IfSome stream (EndsOn place ended heard left) → IfSome stream (EndsOn place status heard left)
 end_stops_on place ended status replies waiting old mid new heard None left s last stops = tt
 end_stops_on place ended status replies waiting old mid new heard (Some bytes) left s last stops =
     (stops.0, stops.1, end_stops (place + length heard) ended status replies waiting old mid new stops.0 left s last stops.2)
@@ -402,7 +404,7 @@ pub stands_first : (place reading : ℕ) (before after : EntityData) (waiting : 
 stands_first place reading before after waiting old mid ended stops = stops.said [] old.out (keep_none reply_line old.out)
 
 pub put_last_ends : (place reading : ℕ) (before after : EntityData) (stream left : Option (List ℕ)) (waiting : List ℕ) (old mid new : SinkTold) (told more : LinkTold) (ended status : Status)
-    → StopsFrom place reading before after [] waiting (outside stream old None told) (outside left mid None more) ended → PutsLast ended status waiting mid new
+    → StopsFrom place reading before after [] waiting (outside stream old None told) (outside left mid None more) ended → PutsLast WriteFault ended status waiting mid new
     → ReplaysFrom place reading before after (outside stream old None told) (outside left new None more) status
 put_last_ends place reading before after stream left waiting old mid new told more ended status stops last =
     let s = stands_first place reading before after waiting (outside stream old None told) (outside left mid None more) ended stops in record {

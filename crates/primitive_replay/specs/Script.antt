@@ -25,7 +25,7 @@ use Rattle.cse_machine.specs.declared.event.Event.TheVariants.{Ask as AskEvent}
 use Rattle.desk_replies.specs.Replies.{CarriesEach, GivesReplies}
 use Rattle.primitive_replay.specs.Lines.{line_read}
 use Rattle.primitive_replay.specs.Stream.{BeginsWithLines, BeginsBadly, HoldsLittle, HoldsNoLine}
-use Rattle.primitive_replay.specs.Together.{PutsWithin, WritesAll, WritesAllButLast, WritesPart}
+use Rattle.cse_server.specs.Together.{PutsWithin, WritesAll, WritesAllButLast, WritesPart}
 use Rattle.primitive_replay.specs.declared.line.Line.{Line}
 use Rattle.primitive_replay.specs.declared.line.Line.TheVariants.{Empty, Reading, Ask}
 

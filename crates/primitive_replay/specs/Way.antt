@@ -17,7 +17,7 @@ use Rattle.desk_replies.specs.Replies.{CarriesEach, GivesReply}
 use Rattle.primitive_replay.specs.Script.{AsksLines, StopsRightly, WritesReplies, lines_of_items}
 use Rattle.primitive_replay.specs.Script.{next_reading, reading_behind, reply_line}
 use Rattle.primitive_replay.specs.Stream.{BeginsWithLines, LeadsTo}
-use Rattle.primitive_replay.specs.Together.{KeepsBack, KeepsBackAllButLast, WritesPart}
+use Rattle.cse_server.specs.Together.{KeepsBack, KeepsBackAllButLast, WritesPart}
 use Rattle.primitive_replay.specs.declared.fault.LineFault.{LineFault}
 use Rattle.primitive_replay.specs.declared.fault.LineFault.TheVariants.{Bad, ReadFault as Unread}
 use Rattle.primitive_replay.specs.declared.fault.LineFault.TheVariants.{OutOfMemory as Starved}

@@ -7,8 +7,8 @@ ghost use Rattle.primitive_replay.specs.Script.{reply_line};
 ghost use Rattle.primitive_replay.specs.Together.{SaysText};
 ghost use Rattle.primitive_replay.specs.Way.{RepliesTo, WritesText};
 
-use crate::waiting::put_if_much;
 use cse_machine::{Event, Outcome, step};
+use cse_server::put_if_much;
 use desk_replies::{bare_reply, reply_onward};
 use entity_model::Entity;
 use m2m_io::{Link, Sink, Status};

@@ -8,6 +8,7 @@ ghost use Rattle.primitive_replay.specs.Front.{held_limit};
 use crate::fault::LineFault;
 use crate::line_buffer::{LineBuffer, SHORT};
 use m2m_io::Source;
+use memchr::memchr;
 
 /// What stands at the front of a stream of lines, once that is settled.
 #[derive(Clone, Copy)]
@@ -27,7 +28,10 @@ fn end_of(bytes: &[u8]) -> usize
     ensures value { result ≡ end_of bytes.now }
     ensures bound { result ≤ length bytes.now }
 {
-    bytes.iter().take_while(|byte| **byte != b'\n').count()
+    match memchr(b'\n', bytes) {
+        Some(end) => end,
+        None => bytes.len(),
+    }
 }
 
 /// Where the first line that ends in the bytes held has its LF.

@@ -1,6 +1,6 @@
 -- A stream is answered in one way.
 use Rattle.service_laws.proofs.Words.{◌≡◌, ◌≢◌, ℕ, ◌+◌, Bool, true, false, List, [], ◌∷◌, ◌++◌, map, Option, Some, IsTrue, inl, inr, refl, sym, ap, subst, ◌∙◌, arith, All, list_all, list_any}
-use Rattle.service_laws.proofs.Terms.{ReplyParts, sink_told, readings_of, events_of, outcomes_of, Frame, Request, BeginsWithFrames, BeginsWithFrame, HasNoFrame, EntityData, Event, Ask, Outcome, Done, Forward, Item, Starved, Ticked, History, IsDone, Step, Ended, Closed, NoFrame, ReadFault, WriteFault, Memory, closes, requests_in, talk, some_closes, ends_at_close, RefusesRightly, EndsRightly, Says, GivesReplies}
+use Rattle.service_laws.proofs.Terms.{ReplyParts, SinkTold, sink_told, readings_of, events_of, outcomes_of, Frame, Request, BeginsWithFrames, BeginsWithFrame, HasNoFrame, EntityData, Event, Ask, Outcome, Done, Forward, Item, Starved, Ticked, History, IsDone, Step, Ended, Closed, NoFrame, ReadFault, WriteFault, Memory, closes, requests_in, talk, talk_texts, some_closes, ends_at_close, RefusesRightly, EndsRightly, Says, GivesReplies}
 use Rattle.service_laws.proofs.Facts.{cases_Bool, true≢false, false≢true, append_cancel_left, All-map, Grew-runs, one_way, same_Some}
 use Rattle.std.specs.Prelude.{◌&&◌, ◌||◌, Err, Ok, Result, unwrap_or}
 use Rattle.std.specs.List.{cons_option, flat_map}
@@ -13,6 +13,8 @@ use Rattle.http_frames.proofs.InboxLemmas.{none_within}
 use Rattle.http_frames.proofs.LookLemmas.{some_bytes}
 use Rattle.entity_model.specs.Sound.{IsSoundEntity}
 use Rattle.machine_laws.specs.Sight.{IsBy, IsRequestBy, are_calm_but_last, does_poll, is_calm_event, is_polling, is_polling_event, names_poll, sight}
+use Rattle.cse_server.specs.Connection.{SaysBeforeLast}
+use Rattle.cse_server.proofs.TalkLemmas.{talk_said}
 use Rattle.machine_laws.proofs.AlikeLemmas.{none_polls, same_outcomes, stayed_alike}
 use Rattle.resource_model.specs.Home.{HomeData}
 use Rattle.primitive_json.specs.declared.request.RequestParts.{RequestParts}
@@ -135,13 +137,13 @@ heard_one_way (x ∷ xs) (y ∷ ys) place ended end refused denied stream rest o
 -- ---- what is said
 
 -- where it ends whole, all of its talk is written
-pub said_whole : (ended : Ended) (old new before text : List ℕ) (count : ℕ) (puts now : Option ℕ) → IsFaultless ended
-    → Says ended before text count (sink_told (Some old) puts) (sink_told (Some new) now) → new ≡ old ++ text
-said_whole Closed old new before text count puts now whole said = said.written
-said_whole NoFrame old new before text count puts now whole said = said.written
-said_whole ReadFault old new before text count puts now whole said = absurd whole
-said_whole WriteFault old new before text count puts now whole said = absurd whole
-said_whole Memory old new before text count puts now whole said = absurd whole
+pub said_whole : (ended : Ended) (old new : List ℕ) (place : ℕ) (heard : List Frame) (refused : Bool) (rs : List ReplyParts) (puts now : Option ℕ) → IsFaultless ended
+    → Says ended (talk_texts place heard refused rs) (sink_told (Some old) puts) (sink_told (Some new) now) → new ≡ old ++ talk place heard refused rs
+said_whole Closed old new place heard refused rs puts now whole said = said.said.written ∙ ap (λ v. old ++ v) (talk_said place heard refused rs)
+said_whole NoFrame old new place heard refused rs puts now whole said = said.said.written ∙ ap (λ v. old ++ v) (talk_said place heard refused rs)
+said_whole ReadFault old new place heard refused rs puts now whole said = absurd whole
+said_whole WriteFault old new place heard refused rs puts now whole said = absurd whole
+said_whole Memory old new place heard refused rs puts now whole said = absurd whole
 
 talk_same : (place : ℕ) (heard others : List Frame) (refused denied : Bool) (rs ps : List ReplyParts) → heard ≡ others → refused ≡ denied → rs ≡ ps
     → talk place heard refused rs ≡ talk place others denied ps
@@ -150,10 +152,18 @@ talk_same place heard others refused denied rs ps a b c = λ i. talk place (a i)
 all_done : (mine : History) (outcomes : List Outcome) → outcomes_of mine ≡ outcomes → All IsDone outcomes → All IsDone (outcomes_of mine)
 all_done mine outcomes same done = subst (λ (os : List Outcome). All IsDone os) (sym same) done
 
--- where nothing went wrong, all that is asked for each request was asked
-whole_of : (ended : Ended) (flag : Bool) → IsFaultless ended → (flag ≡ false → ended ≡ Memory) → flag ≡ true
-whole_of ended true whole cut = refl
-whole_of ended false whole cut = absurd (subst IsFaultless (cut refl) whole)
+-- where nothing went wrong, memory didn't run out in what is asked for the last reply
+none_cut : (ended : Ended) (texts : List (List ℕ)) (old new : SinkTold) → IsFaultless ended → SaysBeforeLast ended texts old new → ⊥
+none_cut Closed texts old new whole cut = cut
+none_cut NoFrame texts old new whole cut = cut
+none_cut ReadFault texts old new whole cut = cut
+none_cut WriteFault texts old new whole cut = whole
+none_cut Memory texts old new whole cut = whole
+
+-- so all that is asked for each request was asked
+whole_of : (ended : Ended) (flag : Bool) (texts : List (List ℕ)) (old new : SinkTold) → IsFaultless ended → (flag ≡ false → SaysBeforeLast ended texts old new) → flag ≡ true
+whole_of ended true texts old new whole cut = refl
+whole_of ended false texts old new whole cut = absurd (none_cut ended texts old new whole (cut refl))
 
 -- the readings of a front
 front_readings : (n : ℕ) (mine other : History) → readings_of mine ≡ readings_of other → readings_of (take n mine) ≡ readings_of (take n other)
@@ -193,15 +203,17 @@ module _ (rule : ReplyRule) (left right after other : EntityData) (both : Serves
 
   first_whole : All (IsWhole rule) groups
   first_whole =
-      let answers = both.first.talks.answers in
+      let first = both.first.talks in
       subst (λ (flag : Bool). AreWhole rule flag groups)
-      (whole_of both.ended answers.is_whole both.whole (λ cut. (both.first.talks.cut cut).0)) answers.whole
+      (whole_of both.ended first.answers.is_whole (talk_texts 1 first.heard first.refused first.answers.replies)
+      (sink_told (Some both.old) both.puts) (sink_told (Some both.new) both.puts_now) both.whole first.cut) first.answers.whole
 
   second_whole : All (IsWhole rule) others
   second_whole =
-      let answers = both.second.talks.answers in
+      let second = both.second.talks in
       subst (λ (flag : Bool). AreWhole rule flag others)
-      (whole_of both.end answers.is_whole both.wholes (λ cut. (both.second.talks.cut cut).0)) answers.whole
+      (whole_of both.end second.answers.is_whole (talk_texts 1 second.heard second.refused second.answers.replies)
+      (sink_told (Some both.old) both.other_puts) (sink_told (Some both.twin) both.other_puts_now) both.wholes second.cut) second.answers.whole
 
   same_heard : map (λ (group : Group). group.request) groups ≡ map (λ (group : Group). group.request) others
   same_heard =
@@ -251,10 +263,10 @@ module _ (rule : ReplyRule) (left right after other : EntityData) (both : Serves
   same_bytes settled =
       let first = both.first.talks in
       let second = both.second.talks in
-      said_whole both.ended both.old both.new _ _ _ both.puts both.puts_now both.whole first.says
+      said_whole both.ended both.old both.new 1 first.heard first.refused first.answers.replies both.puts both.puts_now both.whole first.says
       ∙ ap (λ v. both.old ++ v) (talk_same 1 first.heard second.heard first.refused second.refused first.answers.replies second.answers.replies both_heard.0 both_heard.1
       (same_replies settled))
-      ∙ sym (said_whole both.end both.old both.twin _ _ _ both.other_puts both.other_puts_now both.wholes second.says)
+      ∙ sym (said_whole both.end both.old both.twin 1 second.heard second.refused second.answers.replies both.other_puts both.other_puts_now both.wholes second.says)
 
   served_same : IsSettled → AreServedAlike both
   served_same settled = (same_bytes settled, both_heard.2, (same_answers settled).1)

@@ -1,6 +1,6 @@
 -- The answer of another CSE to one request.
-use Rattle.service_laws.proofs.Words.{◌≡◌, ◌≢◌, ◌≤◌, ℕ, true, false, List, [], ◌∷◌, ◌++◌, length, map, if◌then◌else◌, Option, Some, None, Result, Ok, Err, IfSome, IsTrue, is_some, ◌⊎◌, inl, inr, refl, sym, ap, subst, ◌∙◌, append-nil, arith, cons_option, list_all, list_any, option_map, option_to_list, result_ok}
-use Rattle.service_laws.proofs.Terms.{Carrying, Exchange, made_in, ReplyParts, RequestParts, Runs, readings_of, events_of, outcomes_of, Frame, Request, BeginsWithFrame, BeginsWithFrames, HasNoFrame, reply_text, close_lines, content_lines, id_lines, request_frame, request_text, caller_lines, expiry_lines, host_field, origin_lines, host_of, Peer, Carried, handed_on, EntityData, History, Event, Ask, Outcome, Done, Forward, Item, Ticked, Starved, Step, Ended, Closed, NoFrame, ReadFault, WriteFault, Memory, asks_by, asks_to_close, closes, Says, SinkTold, sink_told, GivesReply, GivesReplies, RepliesBy, malformed, reply_for, request_in, requests_in, talk}
+use Rattle.service_laws.proofs.Words.{◌≡◌, ◌≢◌, ◌≤◌, ℕ, Bool, true, false, List, [], ◌∷◌, ◌++◌, length, map, if◌then◌else◌, Option, Some, None, Result, Ok, Err, IfSome, IsTrue, is_some, ◌⊎◌, inl, inr, refl, sym, ap, subst, ◌∙◌, append-nil, arith, cons_option, list_all, list_any, option_map, option_to_list, result_ok}
+use Rattle.service_laws.proofs.Terms.{Carrying, Exchange, made_in, ReplyParts, RequestParts, Runs, readings_of, events_of, outcomes_of, Frame, Request, BeginsWithFrame, BeginsWithFrames, HasNoFrame, reply_text, close_lines, content_lines, id_lines, request_frame, request_text, caller_lines, expiry_lines, host_field, origin_lines, host_of, Peer, Carried, handed_on, EntityData, History, Event, Ask, Outcome, Done, Forward, Item, Ticked, Starved, Step, Ended, Closed, NoFrame, ReadFault, WriteFault, Memory, asks_by, asks_to_close, closes, Says, SinkTold, sink_told, GivesReply, GivesReplies, RepliesBy, malformed, reply_for, request_in, requests_in, talk, talk_texts}
 use Rattle.service_laws.proofs.Facts.{cases_Bool, cond-true, cond-false, false≢true, true≢false, Grew-runs, one_reply, told_is_carried, none_some, same_Some, same_first}
 use Rattle.std.specs.Fmt.{decimal}
 use Rattle.m2m_value.specs.Data.{Data, depth}
@@ -73,11 +73,11 @@ all_said WriteFault whole = absurd whole
 all_said Memory whole = absurd whole
 
 -- and all of its talk was written
-written_all : (ended : Ended) (answer before text : List ℕ) (count : ℕ) (puts : Option ℕ) (new : SinkTold) → IsFaultless ended → new.written ≡ Some answer
-    → Says ended before text count (sink_told (Some []) puts) new → answer ≡ text
-written_all ended answer before text count puts new whole told said =
-    said_whole ended [] answer before text count puts new.puts whole
-    (subst (λ (w : Option (List ℕ)). Says ended before text count (sink_told (Some []) puts) (sink_told w new.puts)) told said)
+written_all : (ended : Ended) (answer : List ℕ) (place : ℕ) (heard : List Frame) (refused : Bool) (rs : List ReplyParts) (puts : Option ℕ) (new : SinkTold) → IsFaultless ended → new.written ≡ Some answer
+    → Says ended (talk_texts place heard refused rs) (sink_told (Some []) puts) new → answer ≡ talk place heard refused rs
+written_all ended answer place heard refused rs puts new whole told said =
+    said_whole ended [] answer place heard refused rs puts new.puts whole
+    (subst (λ (w : Option (List ℕ)). Says ended (talk_texts place heard refused rs) (sink_told (Some []) puts) (sink_told w new.puts)) told said)
 
 -- a lone frame that closes ends the connection
 lone_settles : (frame : Frame) (rest : List ℕ) → closes 1 frame ≡ true → Settles 1 Closed false (frame ∷ []) rest
@@ -265,7 +265,8 @@ module _ (sent : RequestParts) (url : List ℕ) (before after : EntityData) (giv
 
   -- all of the talk was written
   said_there : answer ≡ talk 1 talks.serves.talks.heard talks.serves.talks.refused talks.serves.talks.answers.replies
-  said_there = written_all talks.ended answer _ _ _ _ talks.new.out whole_here talks.answer_is talks.serves.talks.says
+  said_there = written_all talks.ended answer 1 talks.serves.talks.heard talks.serves.talks.refused talks.serves.talks.answers.replies _ talks.new.out whole_here
+      talks.answer_is talks.serves.talks.says
 
   -- ---- where its frame stands at the front
 

@@ -9,7 +9,7 @@ pub use Rattle.cse_server.specs.Closing.{asks_by, asks_to_close, closes}
 pub use Rattle.cse_server.specs.Connection.{EndsRightly, RefusesRightly, Says}
 pub use Rattle.cse_server.specs.Outside.{SinkTold, sink_told}
 pub use Rattle.desk_replies.specs.Replies.{GivesReplies, GivesReply, GoesOn, RepliesBy}
-pub use Rattle.cse_server.specs.Talk.{ends_at_close, malformed, replies_behind, reply_for, reply_texts, request_in, requests_in, some_closes, talk}
+pub use Rattle.cse_server.specs.Talk.{ends_at_close, malformed, replies_behind, reply_for, reply_texts, request_in, requests_in, some_closes, talk, talk_texts}
 pub use Rattle.cse_server.specs.declared.connection.Ended.{Ended}
 pub use Rattle.cse_server.specs.declared.connection.Ended.TheVariants.{Closed, Memory, NoFrame, ReadFault, WriteFault}
 pub use Rattle.entity_model.specs.Entity.{EntityData, swept}

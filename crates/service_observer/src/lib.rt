@@ -5,7 +5,7 @@
 //! memory let it pass.
 //!
 //! ```text
-//! conn.replied(&frame, None, &reply); // once the reply was written
+//! conn.replied(&frame, None, &reply, text); // once the reply was said
 //! conn.answered(payload, Rsc::Ok); // once the reply to a message of JSON was
 //! link.let_go(&request); // for which no host is known
 //! ```
