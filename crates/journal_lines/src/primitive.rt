@@ -1,7 +1,8 @@
 //! The text of a request that can be kept.
-ghost use Rattle.std.specs.Prelude.{◌≡◌, ◌++◌, IfSome, IsUtf8, OnOk, Some, option_map, true};
+ghost use Rattle.std.specs.Prelude.{◌≡◌, ◌++◌, IfSome, IsUtf8, OnErr, OnOk, Some, option_map};
+ghost use Rattle.std.specs.Prelude.{true};
 ghost use Rattle.m2m_value.specs.Data as plain;
-ghost use Rattle.m2m_value.specs.Sound.{IsSound};
+ghost use Rattle.m2m_value.specs.Sound.{BeginsWith, IsSound};
 ghost use Rattle.m2m_value.specs.Spelling.{text_of};
 ghost use Rattle.primitive_json.specs.Requests.{IsSoundRequest, IsSoundWhen};
 ghost use Rattle.primitive_json.specs.Writing.{expiry_data, written_request};
@@ -19,6 +20,7 @@ fn push_member(text: &mut Vec<u8>, head: &[u8], value: &Val) -> Result<(), OutOf
     ensures written { OnOk result
         (text.new.items ≡ text.old.items ++ spec.behind head.now (Some value.now)) }
     ensures sound { OnOk result (IsSound value.now) }
+    ensures err { OnErr result (BeginsWith text.old.items text.new.items) }
 {
     text.extend_from_slice(head)?;
     write(value, text)?;
@@ -34,6 +36,7 @@ fn push_number_member(
     ensures written { OnOk result (text.new.items
         ≡ text.old.items ++ spec.behind head.now (option_map plain.number number)) }
     ensures sound { OnOk result (IfSome (option_map plain.number number) IsSound) }
+    ensures err { OnErr result (BeginsWith text.old.items text.new.items) }
 {
     if let Some(n) = number {
         push_member(text, head, &Val::of_num(n))?;
@@ -48,8 +51,9 @@ fn push_text_member(
     member: &Text,
 ) -> Result<(), OutOfMemory>
     requires { IsUtf8 member.now }
-    ensures { OnOk result (text.new.items
+    ensures written { OnOk result (text.new.items
         ≡ text.old.items ++ spec.behind head.now (Some (plain.text member.now))) }
+    ensures err { OnErr result (BeginsWith text.old.items text.new.items) }
 {
     let value = text_value(alloc, member)?;
     push_member(text, head, &value)?;
@@ -63,8 +67,9 @@ fn push_originator(
     originator: &Option<Text>,
 ) -> Result<(), OutOfMemory>
     requires { IfSome originator.now IsUtf8 }
-    ensures { OnOk result (text.new.items
+    ensures written { OnOk result (text.new.items
         ≡ text.old.items ++ spec.behind head.now (option_map plain.text originator.now)) }
+    ensures err { OnErr result (BeginsWith text.old.items text.new.items) }
 {
     if let Some(fr) = originator {
         push_text_member(alloc, text, head, fr)?;
@@ -76,6 +81,7 @@ fn push_operation(text: &mut Vec<u8>, head: &[u8], op: Op) -> Result<(), OutOfMe
     ensures written { OnOk result (text.new.items
         ≡ text.old.items ++ spec.behind head.now (Some (spec.operation_data op))) }
     ensures sound { OnOk result (IsSound (spec.operation_data op)) }
+    ensures err { OnErr result (BeginsWith text.old.items text.new.items) }
 {
     push_member(text, head, &Val::of_num(op.number()))?;
     Ok(())
@@ -86,6 +92,7 @@ fn push_content(text: &mut Vec<u8>, head: &[u8], content: &Option<Val>) -> Resul
     ensures written { OnOk result
         (text.new.items ≡ text.old.items ++ spec.behind head.now content.now) }
     ensures sound { OnOk result (IfSome content.now IsSound) }
+    ensures err { OnErr result (BeginsWith text.old.items text.new.items) }
 {
     if let Some(value) = content {
         push_member(text, head, value)?;
@@ -103,6 +110,7 @@ fn push_expiry(
     ensures written { OnOk result (text.new.items
         ≡ text.old.items ++ spec.behind head.now (option_map expiry_data when)) }
     ensures sound { OnOk result (IfSome (option_map expiry_data when) IsSound) }
+    ensures err { OnErr result (BeginsWith text.old.items text.new.items) }
 {
     if let Some(when) = when {
         let value = Val::of_text(expiry_text(alloc, when)?);
@@ -117,6 +125,7 @@ fn push_front(alloc: Global, text: &mut Vec<u8>, request: &RequestParts) -> Resu
     ensures written { OnOk result (text.new.items
         ≡ text.old.items ++ spec.with_commas (spec.front_rows request.now)) }
     ensures sound { OnOk result (spec.AreSoundRows (spec.front_rows request.now)) }
+    ensures err { OnErr result (BeginsWith text.old.items text.new.items) }
 {
     push_number_member(text, b"\"drt\":", request.drt)?;
     push_originator(alloc, text, b"\"fr\":", &request.fr)?;
@@ -131,6 +140,7 @@ fn push_back(alloc: Global, text: &mut Vec<u8>, request: &RequestParts) -> Resul
     ensures written { OnOk result (text.new.items
         ≡ text.old.items ++ spec.with_commas (spec.back_rows request.now)) }
     ensures sound { OnOk result (spec.AreSoundRows (spec.back_rows request.now)) }
+    ensures err { OnErr result (BeginsWith text.old.items text.new.items) }
 {
     push_number_member(text, b"\"rcn\":", request.rcn)?;
     push_expiry(alloc, text, b"\"rqet\":", request.rqet)?;
@@ -141,7 +151,8 @@ fn push_back(alloc: Global, text: &mut Vec<u8>, request: &RequestParts) -> Resul
 
 fn push_target(alloc: Global, text: &mut Vec<u8>, to: &Text) -> Result<(), OutOfMemory>
     requires { IsUtf8 to.now }
-    ensures { OnOk result (text.new.items ≡ text.old.items ++ spec.target_text to.now) }
+    ensures written { OnOk result (text.new.items ≡ text.old.items ++ spec.target_text to.now) }
+    ensures err { OnErr result (BeginsWith text.old.items text.new.items) }
 {
     let value = text_value(alloc, to)?;
     text.extend_from_slice(b"\"to\":")?;
@@ -152,6 +163,7 @@ fn push_type(text: &mut Vec<u8>, request: &RequestParts) -> Result<(), OutOfMemo
     ensures written { OnOk result
         (text.new.items ≡ text.old.items ++ spec.type_text (spec.type_data request.now)) }
     ensures sound { OnOk result (IfSome (spec.type_data request.now) IsSound) }
+    ensures err { OnErr result (BeginsWith text.old.items text.new.items) }
 {
     if let Some(number) = request.ty {
         text.extend_from_slice(b",\"ty\":")?;
@@ -171,6 +183,7 @@ pub(crate) fn push_primitive(
     ensures written { OnOk result
         (text.new.items ≡ text.old.items ++ text_of (written_request request.now)) }
     ensures sound { OnOk result (IsSound (written_request request.now)) }
+    ensures err { OnErr result (BeginsWith text.old.items text.new.items) }
 {
     let parts = request.parts();
     text.push(b'{')?;

@@ -7,7 +7,7 @@ ghost use Rattle.journal_lines.specs.Lines.{IsReadBack};
 ghost use Rattle.journal_lines.specs.declared.deed.Deed.TheVariants.{Ask, Take, Tick};
 ghost use Rattle.m2m_value.specs.Data.{depth};
 ghost use Rattle.m2m_value.specs.Reading.{reading, reading_depth};
-ghost use Rattle.m2m_value.specs.Sound.{IsSound};
+ghost use Rattle.m2m_value.specs.Sound.{BeginsWith, IsSound};
 ghost use Rattle.m2m_value.specs.Spelling.{text_of};
 ghost use Rattle.primitive_json.specs.Writing.{written_request};
 
@@ -16,9 +16,6 @@ use crate::primitive::push_primitive;
 use m2m_value::{Val, write};
 use primitive_json::Request;
 use std::alloc::{AllocError as OutOfMemory, Global};
-
-/// For so many bytes a line has room at first, which is more than most have.
-const LINE_ROOM: usize = 512;
 
 /// Why the lines of a request aren't written.
 #[derive(Clone, Copy, Debug, PartialEq, Eq)]
@@ -42,7 +39,8 @@ impl From<OutOfMemory> for LineFault {
 /// A number in decimal digits.
 fn push_number(text: &mut Vec<u8>, number: u64) -> Result<(), OutOfMemory>
     requires { number < spec.moment_bound }
-    ensures { OnOk result (text.new.items ≡ text.old.items ++ decimal number) }
+    ensures written { OnOk result (text.new.items ≡ text.old.items ++ decimal number) }
+    ensures err { OnErr result (BeginsWith text.old.items text.new.items) }
 {
     write(&Val::of_num(number as i64), text)
 }
@@ -50,8 +48,9 @@ fn push_number(text: &mut Vec<u8>, number: u64) -> Result<(), OutOfMemory>
 /// The line of a moment.
 fn push_moment(text: &mut Vec<u8>, moment: u64) -> Result<(), OutOfMemory>
     requires { moment < spec.moment_bound }
-    ensures { OnOk result
+    ensures written { OnOk result
         (text.new.items ≡ text.old.items ++ spec.ended (spec.moment_line moment)) }
+    ensures err { OnErr result (BeginsWith text.old.items text.new.items) }
 {
     text.push(b'@')?;
     push_number(text, moment)?;
@@ -92,11 +91,31 @@ fn push_both(
     ensures written { OnOk result
         (text.new.items ≡ text.old.items ++ spec.dated_lines moment (Ask request.now)) }
     ensures sound { OnOk result (IsSound (written_request request.now)) }
+    ensures err { OnErr result (BeginsWith text.old.items text.new.items) }
 {
     push_moment(text, moment)?;
     push_primitive(alloc, text, request)?;
     text.push(b'\n')?;
     Ok(())
+}
+
+/// A mark and the two lines of a request. Where memory runs out, a front of them may stand there.
+fn push_all(
+    alloc: Global,
+    text: &mut Vec<u8>,
+    mark: &[u8],
+    moment: u64,
+    request: &Request,
+) -> Result<(), OutOfMemory>
+    requires small { moment < spec.moment_bound }
+    requires kinds { keeping.is_of_kinds request.now ≡ true }
+    ensures written { OnOk result (text.new.items
+        ≡ text.old.items ++ (mark.now ++ spec.dated_lines moment (Ask request.now))) }
+    ensures sound { OnOk result (IsSound (written_request request.now)) }
+    ensures err { OnErr result (BeginsWith text.old.items text.new.items) }
+{
+    text.extend_from_slice(mark)?;
+    push_both(alloc, text, moment, request)
 }
 
 /// The mark and the two lines of a word.
@@ -125,10 +144,12 @@ fn push_lines(
     ensures sound { OnOk result (IsSound (written_request request.now)) }
     ensures err { OnErr result (text.new.items ≡ text.old.items) }
 {
-    let mut line = Vec::with_capacity(alloc, LINE_ROOM)?;
-    line.extend_from_slice(mark)?;
-    push_both(alloc, &mut line, moment, request)?;
-    text.extend_from_slice(&line)
+    let before = text.len();
+    let written = push_all(alloc, text, mark, moment, request);
+    if written.is_err() {
+        text.truncate(before);
+    }
+    written
 }
 
 /// Appends a mark and the two lines of a request.
