@@ -3,3 +3,4 @@ pub mod EffectLemmas
 pub mod FormLemmas
 pub mod HereLemmas
 pub mod KeptLemmas
+pub mod SizeLemmas

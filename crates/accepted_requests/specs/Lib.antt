@@ -1,4 +1,5 @@
 pub mod Entries
+pub mod Sizes
 pub mod Names
 pub mod Here
 pub mod Kept

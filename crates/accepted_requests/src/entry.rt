@@ -1,6 +1,7 @@
 //! A request that was accepted.
-ghost use Rattle.std.specs.Prelude.{◌≡◌, IfOk, unwrap_or};
+ghost use Rattle.std.specs.Prelude.{◌≡◌, nat_lt, IfOk, unwrap_or};
 ghost use Rattle.accepted_requests.specs.Entries as spec;
+ghost use Rattle.accepted_requests.specs.Sizes.{content_size, most_kept};
 
 use entity_model::refuse;
 use m2m_names::{LAST_MOMENT, Op, Rsc};
@@ -12,6 +13,9 @@ use std::mem::replace;
 
 /// For how long an accepted request is kept, in seconds.
 const ENTRY_TIME: u64 = 86400;
+
+/// Where more bytes of results are kept than these, no more is run.
+const MOST_KEPT: u64 = 67_108_864;
 
 /// A request that was accepted, and its reply once it was run. Contracts see it as what is kept of
 /// it (`LaterEntryData` of specs/Entries).
@@ -25,6 +29,8 @@ pub struct LaterEntry {
     has_run: bool,
     // Its reply; before it was run, the one for which memory runs out.
     reply: Reply,
+    // The bytes of the content of that reply.
+    size: u64,
 }
 
 impl Model for LaterEntry {
@@ -47,7 +53,7 @@ impl Model for LaterEntry {
       reply = reply_kept e.has_run e.reply;
     } };
 
-    ghost invariant = { λ e. IsKeptReady e.originator e.accepted e.request e.has_run e.reply };
+    ghost invariant = { λ e. IsKeptReady e.originator e.accepted e.request e.has_run e.reply e.size };
 }
 
 // The request as it is run: with nothing said of how its reply is wanted.
@@ -78,6 +84,23 @@ fn no_request(alloc: Global) -> Request
     })
 }
 
+// The bytes of the content of a reply.
+fn content_size(reply: &Reply) -> u64
+    ensures { result ≡ content_size reply.now }
+{
+    match &reply.parts().pc {
+        Some(content) => content.size(),
+        None => 0,
+    }
+}
+
+/// Whether results of so many bytes leave no room for one more.
+pub fn leave_no_room(kept: u64) -> bool
+    ensures { result ≡ nat_lt most_kept kept }
+{
+    kept > MOST_KEPT
+}
+
 // The reply is the one that is told, where one is.
 fn put(kept: &mut Reply, told: Option<Reply>)
     ensures { kept.new ≡ unwrap_or told kept.old }
@@ -94,6 +117,7 @@ impl LaterEntry {
     ghost use Rattle.filter_criteria.specs.Bounds.{IsMoment};
     ghost use Rattle.m2m_names.specs.Name as names;
     ghost use Rattle.accepted_requests.specs.Entries as spec;
+    ghost use Rattle.accepted_requests.specs.Sizes.{result_size};
 
     /// The request of an originator, in the short form, accepted under a number at a moment.
     pub fn accept(
@@ -118,6 +142,7 @@ impl LaterEntry {
             request: asked,
             has_run: false,
             reply,
+            size: 0,
         })
     }
 
@@ -199,6 +224,13 @@ impl LaterEntry {
         }
     }
 
+    /// The bytes of its result, once it was run: those of the content of its reply.
+    pub fn result_size(&self) -> u64
+        ensures { result ≡ result_size self.now }
+    {
+        self.size
+    }
+
     /// Begins its run: gives the request that is to be asked. Until the run is finished, the reply
     /// is the one for which memory runs out.
     pub fn begin(&mut self, alloc: Global) -> Request
@@ -217,5 +249,6 @@ impl LaterEntry {
     {
         self.request = request;
         put(&mut self.reply, told);
+        self.size = content_size(&self.reply);
     }
 }

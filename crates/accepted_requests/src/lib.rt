@@ -4,7 +4,9 @@
 //! `LaterRequests` is the list of those that are kept, each a `LaterEntry`, and the last number
 //! that was given to one. Contracts see both as data (`specs/Entries`). Who runs an entry takes its
 //! request by `begin`, and gives it back with the reply by `finish`. Neither takes memory, since
-//! the reply for which memory runs out is kept ready.
+//! the reply for which memory runs out is kept ready. `results_size` tells how many bytes of results
+//! are kept, and `leave_no_room` whether these are more than the 64 MiB behind which nothing is run
+//! (`specs/Sizes`).
 //!
 //! `Asked::of` reads what a request says before the CSE answers it: who asks, where it is sent, and
 //! which accepted request it names. `LaterRequests::answer` then gives another reply in two cases
@@ -28,5 +30,5 @@ mod list;
 mod naming;
 
 pub use asked::Asked;
-pub use entry::LaterEntry;
-pub use list::LaterRequests;
+pub use entry::{LaterEntry, leave_no_room};
+pub use list::{LaterRequests, results_size};

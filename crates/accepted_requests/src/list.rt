@@ -1,6 +1,8 @@
 //! The requests that were accepted.
 ghost use Rattle.std.specs.Prelude.{◌≡◌, ◌==◌, filter, find, not, option_map};
+ghost use Rattle.m2m_value.specs.Spelling.{capped};
 ghost use Rattle.accepted_requests.specs.Entries.{still_stands};
+ghost use Rattle.accepted_requests.specs.Sizes as sizes;
 
 use crate::entry::LaterEntry;
 use std::alloc::Global;
@@ -26,6 +28,19 @@ impl Model for LaterRequests {
     ghost coded = { Prim.hlevel (codes, data_code) };
 
     ghost view = { λ r. record { entries = r.entries.items; given = r.given } };
+}
+
+/// The bytes of the results that are kept of these; 2^64 - 1 where they are more.
+pub fn results_size(entries: &[LaterEntry]) -> u64
+    ensures { result ≡ capped (sizes.results_size entries.now) }
+{
+    let mut kept = 0u64;
+    let mut place = 0;
+    'each: while place < entries.len() {
+        kept = kept.saturating_add(entries[place].result_size());
+        place += 1;
+    }
+    kept
 }
 
 // The one of a number.

@@ -26,7 +26,7 @@ entry_inside_send = declared_send entry_inside.the_type (
   search (sendable, crosses) depth 20,
   (
     text_send,
-    (search (sendable, crosses) depth 20, (request_send, (search (sendable, crosses) depth 20, (reply_send, tt)))),
+    (search (sendable, crosses) depth 20, (request_send, (search (sendable, crosses) depth 20, (reply_send, (search (sendable, crosses) depth 20, tt))))),
   ),
 )
 

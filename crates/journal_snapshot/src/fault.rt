@@ -6,7 +6,7 @@ use journal_opening::OpeningFault;
 pub enum ShorteningFault {
     /// Its file isn't opened, for this reason.
     Refused(OpeningFault),
-    /// Something of the entity wouldn't be read back as it is.
+    /// Something of the CSE wouldn't be read back as it is.
     Unkept,
     /// The new file could not be put in its place.
     Failed,

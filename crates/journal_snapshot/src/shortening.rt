@@ -1,4 +1,4 @@
-//! A file with the snapshot of an entity is put in the place of one that has a name.
+//! A file with the snapshot of a CSE is put in the place of one that has a name.
 ghost use Rattle.std.specs.Prelude.{◌≡◌, ◌≢◌, ℕ, [], List, IfErr, OnOk};
 ghost use Rattle.kept_file.specs.Crashes.{LeavesOnly, LeavesThis, Replaces};
 ghost use Rattle.entity_model.specs.Entity.{EntityData};
@@ -8,14 +8,19 @@ ghost use Rattle.journal_opening.specs.Journals.{IsJournalOf, made_of};
 ghost use Rattle.journal_opening.specs.Opening.{StaysAsItWas};
 ghost use Rattle.journal_opening.specs.Snapshots.{KeepsMaking};
 ghost use Rattle.journal_opening.specs.declared.fault.OpeningFault.TheVariants.{Failed as failed};
-ghost use Rattle.journal_snapshot.specs.Shortening.{IsRefusedFor, IsUnput, LeavesSnapshot};
-ghost use Rattle.journal_snapshot.specs.Shortening.{SnapshotOr};
+ghost use Rattle.later_opening.specs.Journals.{IsLaterJournalOf};
+ghost use Rattle.later_opening.specs.Making.{later_of, made_of_acts};
+ghost use Rattle.later_opening.specs.Snapshots.{KeepsMakingLater};
+ghost use Rattle.later_opening.specs.declared.act.Act.{Act};
+ghost use Rattle.journal_snapshot.specs.Shortening.{IsRefusedFor, IsUnput, LeavesLaterSnapshot};
+ghost use Rattle.journal_snapshot.specs.Shortening.{LeavesSnapshot, SnapshotOr};
 ghost use Rattle.m2m_io.specs.Counts.{CountsFault};
 
 use crate::fault::ShorteningFault;
+use accepted_requests::LaterRequests;
 use entity_model::Entity;
-use journal_opening::{LineFault, play_file, snapshot_bytes};
 use kept_file::{Failed, KeptFile, KeptName, put_in_place};
+use later_opening::{LineFault, later_snapshot, play_later_file};
 use std::alloc::Global;
 use tree_model::{Home, Tree};
 
@@ -37,29 +42,32 @@ fn put_bytes<F: KeptFile + Drop, N: KeptName<F>>(
     }
 }
 
-/// Puts a file with the snapshot of an entity in the place of the one that has a name.
+/// Puts a file with the snapshot of a CSE, which is an entity with its accepted requests, in the
+/// place of the one that has a name.
 fn put_snapshot<F: KeptFile + Drop, N: KeptName<F>, T: Tree>(
     alloc: Global,
     name: &mut N,
     entity: &Entity<T>,
+    requests: &LaterRequests,
 ) -> Result<(), ShorteningFault>
     requires { N.tells → LeavesThis (N.seen name.old) (N.may_leave name.old) }
-    ensures leaves { N.tells → OnOk result (LeavesSnapshot entity.now (N.may_leave name.new)) }
+    ensures leaves { N.tells → OnOk result
+        (LeavesLaterSnapshot (later_of entity.now requests.now) (N.may_leave name.new)) }
     ensures any_moment { N.tells → LeavesOnly N.moment N.left_since name.old name.new
-        (SnapshotOr (N.seen name.old) entity.now) }
-    ensures fault { IfErr result (IsUnput entity.now) }
+        (SnapshotOr (N.seen name.old) (later_of entity.now requests.now)) }
+    ensures fault { IfErr result (IsUnput (later_of entity.now requests.now)) }
     ensures stays { IfErr result
         (λ fault. fault ≢ ShorteningFault.Failed → name.new ≡ name.old) }
 {
-    match snapshot_bytes(alloc, entity) {
+    match later_snapshot(alloc, entity, requests) {
         Ok(bytes) => put_bytes::<F, N>(name, &bytes),
         Err(LineFault::Unkept) => Err(ShorteningFault::Unkept),
         Err(LineFault::OutOfMemory) => Err(ShorteningFault::OutOfMemory),
     }
 }
 
-/// Opens the entity of a home at the journal in the file that has a name, in a tree that has no
-/// resource yet, and puts a file in its place whose journal is the snapshot of that entity. What a
+/// Opens the CSE of a home at the journal in the file that has a name, in a tree that has no
+/// resource yet, and puts a file in its place whose journal is the snapshot of that CSE. What a
 /// crash may leave of the file is what is read of it, as behind a restart.
 pub fn shorten<F: KeptFile + Drop, N: KeptName<F>, T: Tree>(
     alloc: Global,
@@ -75,13 +83,26 @@ pub fn shorten<F: KeptFile + Drop, N: KeptName<F>, T: Tree>(
     // The file is the one that has the name.
     requires same { N.tells → N.seen name.old ≡ F.seen file.old }
 
-    // From then on a crash leaves the snapshot of the entity that the journal made.
-    ensures leaves { N.tells → (base : EntityData) → (deeds : List Dated) → (text : List ℕ)
+    // From then on a crash leaves the snapshot of the CSE that the journal made, with its accepted
+    // requests.
+    ensures leaves { N.tells → (base : EntityData) → (acts : List Act) → (text : List ℕ)
+        → IsLaterJournalOf home base acts text → KeepsText text (N.seen name.old)
+        → OnOk result (LeavesLaterSnapshot (made_of_acts acts base) (N.may_leave name.new)) }
+
+    // Of a journal of deeds alone that is the snapshot of the entity that they made, with no word.
+    ensures leaves_plain { N.tells → (base : EntityData) → (deeds : List Dated) → (text : List ℕ)
         → IsJournalOf home base deeds text → KeepsText text (N.seen name.old)
         → OnOk result (LeavesSnapshot (made_of deeds base) (N.may_leave name.new)) }
 
-    // A crash at any moment leaves a journal under the name that makes the same entity.
-    ensures any_moment { N.tells → (base : EntityData) → (deeds : List Dated) → (text : List ℕ)
+    // A crash at any moment leaves a journal under the name that makes an equal CSE.
+    ensures any_moment { N.tells → (base : EntityData) → (acts : List Act) → (text : List ℕ)
+        → IsLaterJournalOf home base acts text → KeepsText text (N.seen name.old)
+        → LeavesOnly N.moment N.left_since name.old name.new
+        (KeepsMakingLater home (made_of_acts acts base)) }
+
+    // Where that was one of deeds alone, it leaves one of deeds alone.
+    ensures any_moment_plain { N.tells → (base : EntityData) → (deeds : List Dated)
+        → (text : List ℕ)
         → IsJournalOf home base deeds text → KeepsText text (N.seen name.old)
         → LeavesOnly N.moment N.left_since name.old name.new
         (KeepsMaking home (made_of deeds base)) }
@@ -98,8 +119,8 @@ pub fn shorten<F: KeptFile + Drop, N: KeptName<F>, T: Tree>(
     ensures faults { CountsFault (ShorteningFault.Refused failed) result
         (F.faults file.old) (F.faults file.new) }
 {
-    match play_file(alloc, file, home, tree) {
-        Ok(played) => put_snapshot::<F, N, T>(alloc, name, &played.entity),
+    match play_later_file(alloc, file, home, tree) {
+        Ok(played) => put_snapshot::<F, N, T>(alloc, name, &played.entity, &played.requests),
         Err(fault) => Err(ShorteningFault::Refused(fault)),
     }
 }

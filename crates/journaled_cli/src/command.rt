@@ -99,11 +99,25 @@ pub(crate) fn reason(
     }
 }
 
-/// Says why the journal of this name isn't opened, and gives the status of that.
-fn refuse<E: Sink>(alloc: Global, err: &mut E, name: &str, fault: OpeningFault) -> Status
+/// Why the journal of this name isn't opened, as a line, where words on accepted requests are read.
+pub(crate) fn later_reason(
+    alloc: Global,
+    name: &str,
+    fault: OpeningFault,
+) -> Result<String, OutOfMemory> {
+    match fault {
+        OpeningFault::LaterWord(number) => {
+            format!(in alloc; "cannot open {name}: line {number} is no word of a journal\n")
+        }
+        other => reason(alloc, name, other),
+    }
+}
+
+/// Says why a journal isn't opened, and gives the status of that.
+fn refuse<E: Sink>(err: &mut E, why: Result<String, OutOfMemory>, fault: OpeningFault) -> Status
     ensures { result ≡ refusal fault }
 {
-    if let Ok(why) = reason(alloc, name, fault) {
+    if let Ok(why) = why {
         let _ = err.put(why.as_str().as_bytes());
     }
     refusal(fault)
@@ -276,7 +290,7 @@ where
         }
         Err(unopened) => {
             let Unopened { fault, file } = unopened;
-            let status = refuse(alloc, &mut streams.err, name, fault);
+            let status = refuse(&mut streams.err, reason(alloc, name, fault), fault);
             (status, Some(file))
         }
     }
@@ -347,7 +361,7 @@ where
         }
         Err(unopened) => {
             let Unopened { fault, file } = unopened;
-            let status = refuse(alloc, &mut streams.err, name, fault);
+            let status = refuse(&mut streams.err, later_reason(alloc, name, fault), fault);
             (status, Some(file))
         }
     }

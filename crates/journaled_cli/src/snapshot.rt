@@ -1,10 +1,10 @@
-//! The command `snapshot`: a journal is replaced by the snapshot of the entity that it makes.
+//! The command `snapshot`: a journal is replaced by the snapshot of the CSE that it makes.
 ghost use Rattle.std.specs.Prelude.{◌≡◌, Some};
 ghost use Rattle.journaled_cli.specs.Snapshot.{Shortens, status_for};
 ghost use Rattle.journal_opening.specs.Opening.{StaysAsItWas};
 ghost use Rattle.kept_file.specs.Crashes.{LeavesThis};
 
-use crate::command::{reason, refusal};
+use crate::command::{later_reason, refusal};
 use journal_snapshot::{KeptName, ShorteningFault, shorten};
 use kept_file::KeptFile;
 use m2m_io::{Sink, Status};
@@ -26,7 +26,7 @@ fn status_for(fault: ShorteningFault) -> Status
 /// Why the journal of this name isn't replaced, as a line.
 fn why_not(alloc: Global, name: &str, fault: ShorteningFault) -> Result<String, OutOfMemory> {
     match fault {
-        ShorteningFault::Refused(fault) => reason(alloc, name, fault),
+        ShorteningFault::Refused(fault) => later_reason(alloc, name, fault),
         ShorteningFault::Unkept => {
             format!(in alloc; "cannot replace {name}: something of the CSE can't be kept\n")
         }
@@ -75,9 +75,9 @@ fn shorten_named<F: KeptFile + Drop, N: KeptName<F>, E: Sink>(
     }
 }
 
-/// Runs the command `snapshot`: opens the entity of a home at the journal in the file that has a
-/// name, and puts a file with the snapshot of the entity in its place. The name is told where that
-/// isn't done. The entity's tables hang on the seed.
+/// Runs the command `snapshot`: opens the CSE of a home at the journal in the file that has a name,
+/// and puts a file with the snapshot of that CSE in its place, with the requests that it accepted.
+/// The name is told where that isn't done. The CSE's tables hang on the seed.
 pub fn run_snapshot<F: KeptFile + Drop, N: KeptName<F>, E: Sink>(
     alloc: Global,
     home: Home,
@@ -94,8 +94,8 @@ pub fn run_snapshot<F: KeptFile + Drop, N: KeptName<F>, E: Sink>(
     requires named { N.tells → LeavesThis (N.seen place.old) (N.may_leave place.old) }
     requires same { N.tells → N.seen place.old ≡ F.seen file.old }
 
-    // The journal is replaced by a snapshot of the entity that it makes. A crash at any moment
-    // leaves one that makes that entity. What is refused stays as it was.
+    // The journal is replaced by a snapshot of the CSE that it makes. A crash at any moment leaves
+    // one that makes an equal CSE. What is refused stays as it was.
     ensures runs { Shortens N.tells N.seen N.may_leave N.moment N.left_since home
         place.old place.new result }
 

@@ -10,7 +10,8 @@ use Rattle.cse_machine.specs.declared.event.Event.{Event}
 use Rattle.cse_machine.specs.declared.event.Event.TheVariants.{Ask, Take, Tick}
 use Rattle.cse_machine.specs.declared.event.Outcome.{Outcome}
 use Rattle.later_replies.specs.Entries.{LaterData, LaterEntryData, LaterRequestsData, does_wait, still_standing}
-use Rattle.later_replies.specs.Runs.{ArePassed, runs_all}
+use Rattle.accepted_requests.specs.Sizes.{results_size}
+use Rattle.later_replies.specs.Runs.{AreBounded, ArePassed, runs_all}
 use Rattle.later_replies.specs.Step.{IsTakenLater, LaterStep}
 use Rattle.kept_desk.specs.declared.turn.Report.{Report}
 use Rattle.kept_desk.specs.declared.turn.Report.TheVariants.{Done as Did, Settled, Failed}
@@ -85,6 +86,7 @@ pub one_of_later : (reading : ℕ) (event : KeptEvent) (outcome : KeptOutcome) (
 one_of_later reading event outcome before after step =
     let asked = machine_event reading step.between event outcome in
     let taken = taken_later reading step.moment event outcome step.between after.inner (still_standing step.moment step.ran) after.requests step.taken in
+    let B : Bool → Type 0 = λ (b : Bool). AreBounded (λ (e : LaterEntryData). does_wait e && (b || nat_lt e.accepted step.moment)) (results_size before.requests.entries) before.requests.entries step.ran.entries in
     let P : Bool → Type 0 = λ (b : Bool). ArePassed reading (λ (e : LaterEntryData). does_wait e && (b || nat_lt e.accepted step.moment)) before.requests.entries before.inner step.ran.entries step.between in (
       taken.0,
       record {
@@ -93,6 +95,7 @@ one_of_later reading event outcome before after step =
         ran = step.ran;
         between = step.between;
         runs = subst P (sym (runs_alike reading step.between event outcome)) step.runs;
+        bounded = subst B (sym (runs_alike reading step.between event outcome)) step.bounded;
         given = step.given;
         taken = taken.1;
       },

@@ -1,27 +1,19 @@
 -- A journal that was opened is at rest.
-use Rattle.std.proofs.Common.{◌≡◌, ⊎_elim, ℕ, false, List, [], ◌∷◌, length, take, refl, sym, ◌∙◌, ap, subst, arith}
+use Rattle.std.proofs.Common.{◌≡◌, ℕ, false, List, [], ◌∷◌, length, take, refl, sym, ◌∙◌, ap, subst, arith}
 use Rattle.std.proofs.lemmas.List.{length-take-le, take_at}
 use Rattle.resource_model.specs.Home.{HomeData}
 use Rattle.entity_model.specs.Entity.{EntityData}
 use Rattle.kept_file.specs.Crashes.{LeavesOnly, LeavesThis}
 use Rattle.journal_file.specs.Gates.{IsSettled, KeepsText, at_rest, text_of}
 use Rattle.journal_file.specs.declared.journal.Journal.{Journal}
-use Rattle.journal_opening.proofs.HomeLemmas.{made_home}
 use Rattle.journal_opening.specs.Opening.{StaysAsItWas}
 use Rattle.later_replies.specs.Entries.{LaterData}
-use Rattle.later_opening.specs.Acts.{deeds_in}
+use Rattle.later_opening.proofs.JournalLemmas.{later_at_home}
 use Rattle.later_opening.specs.Journals.{MakesLater}
 use Rattle.later_opening.specs.Opening.{OpensLaterAs}
 use Rattle.kept_object.specs.State.{KeptData}
 use Rattle.journaled_later.specs.Keeping.{KeepsLater}
 use Rattle.journaled_later.specs.Opened.{OpensLaterAt}
-
--- what a journal makes is a CSE of its home
-later_at_home : (home : HomeData) (text : List ℕ) (d : LaterData) → MakesLater home text d → d.inner.home ≡ home
-later_at_home home text d makes =
-    ap (λ (x : LaterData). x.inner.home) makes.made
-    ∙ made_home (deeds_in makes.acts) makes.base
-    ∙ ⊎_elim (λ first. ap (λ (x : EntityData). x.home) first.opens) (λ kept. kept.own) makes.journal.opens
 
 -- ---- the file
 

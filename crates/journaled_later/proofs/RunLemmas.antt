@@ -19,11 +19,13 @@ use Rattle.cse_machine.specs.declared.event.Event.{Event}
 use Rattle.cse_machine.specs.declared.event.Event.TheVariants.{Ask}
 use Rattle.entity_model.specs.Entity.{EntityData}
 use Rattle.accepted_requests.specs.Entries.{LaterEntryData, LaterRequestsData, does_wait, still_standing, still_stands}
+use Rattle.m2m_value.specs.Spelling.{capped}
+use Rattle.accepted_requests.specs.Sizes.{results_size}
 use Rattle.cse_machine.specs.declared.event.Outcome.{Outcome}
 use Rattle.kept_object.specs.Records.{Records}
 use Rattle.journaled_entity.specs.Keeping.{KeepsEntity}
 use Rattle.later_replies.proofs.RunLemmas.{PassedSoFar, passed_next, passed_none}
-use Rattle.later_replies.specs.Runs.{IsPassed, reply_of_run, with_outcome}
+use Rattle.later_replies.specs.Runs.{IsBounded, IsPassed, counted_then, reply_of_run, with_outcome}
 use Rattle.later_opening.specs.Making.{later_of}
 use Rattle.later_lines.specs.Words.{IsReadBack, word_lines}
 use Rattle.later_lines.specs.declared.word.Word.TheVariants.{Ran}
@@ -49,14 +51,14 @@ none_recorded e inner lines = λ front back given. records_none KeepsLater (late
 -- ---- many
 
 -- so many are passed, and what was written down of it keeps the CSE
-pub record RecordedSoFar (reading : ℕ) (runs : LaterEntryData → Bool) (place : ℕ) (all : List LaterEntryData) (before : EntityData) (old : List ℕ)
+pub record RecordedSoFar (reading : ℕ) (runs : LaterEntryData → Bool) (place kept : ℕ) (all : List LaterEntryData) (before : EntityData) (old : List ℕ)
     (now : List LaterEntryData) (after : EntityData) (new : List ℕ) : Type 0 where
-  pub passed : PassedSoFar reading runs place all before now after
+  pub passed : PassedSoFar reading runs place kept all before now after
   pub records : (given : ℕ) → RecordsLater before (record { entries = all; given = given }) old after (record { entries = now; given = given }) new
 
-pub recorded_none : (reading : ℕ) (runs : LaterEntryData → Bool) (all : List LaterEntryData) (before : EntityData) (old : List ℕ) → RecordedSoFar reading runs 0 all before old all before old
-recorded_none reading runs all before old = record {
-  passed = passed_none reading runs all before;
+pub recorded_none : (reading : ℕ) (runs : LaterEntryData → Bool) (kept : ℕ) (all : List LaterEntryData) (before : EntityData) (old : List ℕ) → kept ≡ capped (results_size all) → RecordedSoFar reading runs 0 kept all before old all before old
+recorded_none reading runs kept all before old is = record {
+  passed = passed_none reading runs kept all before is;
   records = λ given. records_none KeepsLater (later_of before (record { entries = all; given = given })) old;
 }
 
@@ -69,17 +71,17 @@ set_there now place r q lt =
     ap (λ (l : List LaterEntryData). set l place q) (split_at now place r lt)
     ∙ set_at (take place now) (get_or now place r) (drop (place + 1) now) q place size
 
-pub recorded_next : (reading : ℕ) (runs : LaterEntryData → Bool) (place : ℕ) (all now new : List LaterEntryData) (r q : LaterEntryData) (before mid after : EntityData) (old lines then : List ℕ)
-    → place < length all → place < length now → RecordedSoFar reading runs place all before old now mid lines → r ≡ get_or now place r
-    → IsPassed reading runs r mid q after → RecordsRun r mid lines q after then → new ≡ set now place q
-    → RecordedSoFar reading runs (place + 1) all before old new after then
-recorded_next reading runs place all now new r q before mid after old lines then lt within so at passed recorded changed =
+pub recorded_next : (reading : ℕ) (runs : LaterEntryData → Bool) (place kept more : ℕ) (all now new : List LaterEntryData) (r q : LaterEntryData) (before mid after : EntityData) (old lines then : List ℕ)
+    → place < length all → place < length now → RecordedSoFar reading runs place kept all before old now mid lines → r ≡ get_or now place r
+    → IsPassed reading runs r mid q after → IsBounded (runs r) kept r q → more ≡ counted_then (runs r) kept q → RecordsRun r mid lines q after then → new ≡ set now place q
+    → RecordedSoFar reading runs (place + 1) more all before old new after then
+recorded_next reading runs place kept more all now new r q before mid after old lines then lt within so at passed bounded sum recorded changed =
     let front = take place now in
     let back = drop (place + 1) now in
     let is_now : now ≡ front ++ r ∷ back = split_at now place r within ∙ ap (λ (x : LaterEntryData). front ++ x ∷ back) (sym at) in
     let is_new : new ≡ front ++ q ∷ back = changed ∙ set_there now place r q within in
     record {
-      passed = passed_next reading runs place all now new r q before mid after lt so.passed at passed changed;
+      passed = passed_next reading runs place kept more all now new r q before mid after lt so.passed at passed bounded sum changed;
       records = λ given.
           let E : List LaterEntryData → LaterRequestsData = λ (l : List LaterEntryData). record { entries = l; given = given } in
           records_then KeepsLater (later_of before (E all)) (later_of mid (E now)) (later_of after (E new)) old lines then (so.records given)

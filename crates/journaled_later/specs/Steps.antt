@@ -3,9 +3,10 @@ use Rattle.std.specs.Prelude.{◌≡◌, ℕ, nat_lt, Bool, true, ◌&&◌, ◌|
 use Rattle.primitive_json.specs.declared.request.RequestParts.{RequestParts}
 use Rattle.cse_machine.specs.declared.event.Event.TheVariants.{Ask, Take, Tick}
 use Rattle.entity_model.specs.Entity.{EntityData, event_moment}
+use Rattle.accepted_requests.specs.Sizes.{results_size}
 use Rattle.later_replies.specs.Entries.{LaterData, LaterEntryData, LaterRequestsData, does_wait}
 use Rattle.later_replies.specs.Entries.{still_standing}
-use Rattle.later_replies.specs.Runs.{ArePassed, runs_all}
+use Rattle.later_replies.specs.Runs.{AreBounded, ArePassed, runs_all}
 use Rattle.later_replies.specs.Step.{IsTakenLater}
 use Rattle.journal_events.specs.Steps.{KeptEntityStep}
 use Rattle.journal_events.specs.declared.event.KeptEvent.{KeptEvent}
@@ -51,8 +52,8 @@ IsTakenKept reading moment (Sent number) before standing outcome after left =
     LeavesRequests reading (Sent number) before standing outcome after left
 
 -- What an event at a reading of the clock may give, and what it may leave. First the requests that
--- wait are run, each as a step of the entity inside. Then those that are due go. Then the event is
--- taken.
+-- wait are run, each as a step of the entity inside; none is done for which too much is kept. Then
+-- those that are due go. Then the event is taken.
 pub record KeptLaterStep (reading : ℕ) (event : KeptEvent) (before : LaterData)
     (outcome : KeptOutcome) (after : LaterData) : Type 0 where
   pub moment : ℕ
@@ -61,6 +62,8 @@ pub record KeptLaterStep (reading : ℕ) (event : KeptEvent) (before : LaterData
   pub between : EntityData
   pub runs : ArePassed reading (is_run_by moment event) before.requests.entries before.inner
       ran.entries between
+  pub bounded : AreBounded (is_run_by moment event) (results_size before.requests.entries)
+      before.requests.entries ran.entries
   pub given : ran.given ≡ before.requests.given
   pub taken : IsTakenKept reading moment event between (still_standing moment ran) outcome
       after.inner after.requests

@@ -4,18 +4,21 @@ ghost use Rattle.std.specs.List.{list_all};
 ghost use Rattle.entity_model.specs.Entity.{EntityData};
 ghost use Rattle.cse_machine.specs.declared.event.Event.TheVariants as asks;
 ghost use Rattle.cse_machine.specs.declared.event.Outcome.{Outcome};
+ghost use Rattle.cse_machine.specs.declared.event.Outcome.TheVariants.{Starved};
 ghost use Rattle.primitive_json.specs.declared.request.RequestParts.{RequestParts};
 ghost use Rattle.accepted_requests.specs.Entries.{does_wait, finished, still_stands};
 ghost use Rattle.accepted_requests.specs.Entries.{still_standing};
+ghost use Rattle.accepted_requests.specs.Sizes as sizes;
 ghost use Rattle.journal_events.specs.declared.event.KeptEvent.TheVariants as events;
 ghost use Rattle.journal_events.specs.declared.event.KeptOutcome.TheVariants as outcomes;
 ghost use Rattle.later_replies.specs.Runs as runs;
-ghost use Rattle.later_replies.specs.Runs.{ArePassed, IsPassed, IsRun};
+ghost use Rattle.later_replies.specs.Runs.{AreBounded, ArePassed, IsBounded, IsPassed, IsRun};
+ghost use Rattle.later_replies.specs.Runs.{counted_then, with_outcome};
 ghost use Rattle.later_opening.specs.Snapshots.{AppendsResult};
 ghost use Rattle.journaled_later.specs.Recorded.{RecordsLater, RecordsRun};
 ghost use Rattle.journaled_later.specs.Steps as spec;
 
-use accepted_requests::{LaterEntry, LaterRequests};
+use accepted_requests::{LaterEntry, LaterRequests, leave_no_room, results_size};
 use cse_machine::{Event, Outcome};
 use journal_events::{KeptEvent, KeptOutcome};
 use journaled_entity::Journaled;
@@ -104,26 +107,77 @@ fn push_result(alloc: Global, lines: &mut Vec<u8>, entry: &LaterEntry) -> Option
     }
 }
 
-/// Runs an accepted request, if an event at this moment does.
+/// Answers an accepted request as one for which memory runs out: what is due goes, and nothing else
+/// is done.
+fn starve<T: Tree>(
+    entity: &mut Journaled<T>,
+    alloc: Global,
+    reading: u64,
+    entry: &mut LaterEntry,
+    lines: &mut Vec<u8>,
+) -> Option<()>
+    requires { does_wait entry.old ≡ true }
+    ensures run { IfSome result
+        (λ _. IsRun reading entry.old entity.old entry.new entity.new) }
+    ensures starved { IfSome result (λ _. entry.new ≡ with_outcome entry.old (Starved 0)) }
+    ensures records { IfSome result (λ _. RecordsRun entry.old entity.old lines.old.items
+        entry.new entity.new lines.new.items) }
+{
+    let request = entry.begin(alloc);
+    let came = entity.record(reading, &KeptEvent::OfMachine(Event::Tick), lines)?;
+    drop(came);
+    entry.finish(request, None);
+    push_result(alloc, lines, entry)
+}
+
+/// Runs an accepted request where so many bytes of results are kept, unless these leave no room for
+/// more.
+fn run_if_room<T: Tree>(
+    entity: &mut Journaled<T>,
+    alloc: Global,
+    reading: u64,
+    kept: u64,
+    entry: &mut LaterEntry,
+    lines: &mut Vec<u8>,
+) -> Option<()>
+    requires { does_wait entry.old ≡ true }
+    ensures run { IfSome result
+        (λ _. IsRun reading entry.old entity.old entry.new entity.new) }
+    ensures bounded { IfSome result (λ _. IsBounded true kept entry.old entry.new) }
+    ensures records { IfSome result (λ _. RecordsRun entry.old entity.old lines.old.items
+        entry.new entity.new lines.new.items) }
+{
+    if leave_no_room(kept) {
+        starve(entity, alloc, reading, entry, lines)
+    } else {
+        run(entity, alloc, reading, entry, lines)
+    }
+}
+
+/// Runs an accepted request where so many bytes of results are kept, if it is to be run; and tells how
+/// many are kept then.
 fn pass<T: Tree>(
     entity: &mut Journaled<T>,
     alloc: Global,
     reading: u64,
-    moment: u64,
-    runs_all: bool,
+    is_run: bool,
+    kept: u64,
     entry: &mut LaterEntry,
     lines: &mut Vec<u8>,
-) -> Option<()>
-    ensures passed { IfSome result (λ _. IsPassed reading
-        (λ e. does_wait e && (runs_all || nat_lt e.accepted moment))
+) -> Option<u64>
+    requires { is_run ≡ true → does_wait entry.old ≡ true }
+    ensures passed { IfSome result (λ _. IsPassed reading (λ e. is_run)
         entry.old entity.old entry.new entity.new) }
+    ensures bounded { IfSome result (λ _. IsBounded is_run kept entry.old entry.new) }
+    ensures kept { IfSome result (λ more. more ≡ counted_then is_run kept entry.new) }
     ensures records { IfSome result (λ _. RecordsRun entry.old entity.old lines.old.items
         entry.new entity.new lines.new.items) }
 {
-    if entry.is_to_run(moment, runs_all) {
-        run(entity, alloc, reading, entry, lines)
+    if is_run {
+        run_if_room(entity, alloc, reading, kept, entry, lines)?;
+        Some(kept.saturating_add(entry.result_size()))
     } else {
-        Some(())
+        Some(kept)
     }
 }
 
@@ -141,14 +195,20 @@ fn pass_all<T: Tree>(
     ensures passed { IfSome result (λ _. ArePassed reading
         (λ e. does_wait e && (runs_all || nat_lt e.accepted moment))
         entries.old.items entity.old entries.new.items entity.new) }
+    ensures bounded { IfSome result (λ _. AreBounded
+        (λ e. does_wait e && (runs_all || nat_lt e.accepted moment))
+        (sizes.results_size entries.old.items)
+        entries.old.items entries.new.items) }
     ensures records { (given : ℕ) → IfSome result (λ _. RecordsLater entity.old
         (record { entries = entries.old.items; given = given }) lines.old.items entity.new
         (record { entries = entries.new.items; given = given }) lines.new.items) }
 {
     let mut place = 0;
+    let mut kept = results_size(entries);
     'each: while place < entries.len() {
         let entry = &mut entries[place];
-        pass(entity, alloc, reading, moment, runs_all, entry, lines)?;
+        let is_run = entry.is_to_run(moment, runs_all);
+        kept = pass(entity, alloc, reading, is_run, kept, entry, lines)?;
         place += 1;
     }
     Some(())
@@ -166,6 +226,8 @@ fn run_entries<T: Tree>(
 ) -> Option<()>
     ensures passed { IfSome result (λ _. ArePassed reading (spec.is_run_by moment event.now)
         entries.old.items entity.old entries.new.items entity.new) }
+    ensures bounded { IfSome result (λ _. AreBounded (spec.is_run_by moment event.now)
+        (sizes.results_size entries.old.items) entries.old.items entries.new.items) }
     ensures records { (given : ℕ) → IfSome result (λ _. RecordsLater entity.old
         (record { entries = entries.old.items; given = given }) lines.old.items entity.new
         (record { entries = entries.new.items; given = given }) lines.new.items) }
@@ -182,7 +244,8 @@ fn run_entries<T: Tree>(
 }
 
 /// Runs those of the accepted requests that the event does, in their order, each as one step of the
-/// entity. None where something was done that can't be written down.
+/// entity; none is done where more is kept of results than may be. None where something was done
+/// that can't be written down.
 pub(crate) fn run_requests<T: Tree>(
     entity: &mut Journaled<T>,
     alloc: Global,
@@ -194,6 +257,8 @@ pub(crate) fn run_requests<T: Tree>(
 ) -> Option<()>
     ensures passed { IfSome result (λ _. ArePassed reading (spec.is_run_by moment event.now)
         requests.old.entries entity.old requests.new.entries entity.new) }
+    ensures bounded { IfSome result (λ _. AreBounded (spec.is_run_by moment event.now)
+        (sizes.results_size requests.old.entries) requests.old.entries requests.new.entries) }
     ensures given { requests.new.given ≡ requests.old.given }
     ensures records { IfSome result (λ _. RecordsLater entity.old requests.old lines.old.items
         entity.new requests.new lines.new.items) }

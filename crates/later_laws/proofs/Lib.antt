@@ -9,3 +9,4 @@ pub mod SightLemmas
 pub mod SoundLemmas
 pub mod StaysLemmas
 pub mod TurnLemmas
+pub mod WithinLemmas

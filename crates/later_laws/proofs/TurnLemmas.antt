@@ -123,3 +123,12 @@ turns_lead (e ∷ history) turns before after has =
 -- what an event comes to, in a turn
 pub turn_comes : (before after : LaterData) (e : Entry Event Outcome) (t : Turn) (is : IsTurn before e t after) → ComesTo before.inner.home (still_standing is.moment is.left) is.moment e.event t.told e.outcome after.requests
 turn_comes before after e t is = comes_to before.inner.home (still_standing is.moment is.left) is.moment e.event t.told e.outcome after.requests is.answered
+
+-- the same of the step itself
+pub step_comes : (before after : LaterData) (e : Entry Event Outcome) (s : LaterStep e.reading e.event before e.outcome after)
+    → ComesTo before.inner.home (still_standing s.moment s.ran) s.moment e.event s.taken.told e.outcome after.requests
+step_comes before after e s =
+    let has = has_ran e.reading (is_to_run s.moment e.event) before.requests.entries before.inner s.ran.entries s.between s.runs in
+    let home : s.between.home ≡ before.inner.home = home_kept (run_history e.reading has.ran) before.inner s.between has.leads in
+    comes_to before.inner.home (still_standing s.moment s.ran) s.moment e.event s.taken.told e.outcome after.requests
+    (subst (λ (h : HomeData). IsAnsweredBy (event_effect h (still_standing s.moment s.ran) s.moment e.event s.taken.told) (still_standing s.moment s.ran) s.taken.told e.outcome after.requests) home s.taken.answered)

@@ -6,6 +6,7 @@ ghost use Rattle.later_laws.specs.Laws.{LaterStaysSound, OpensSound, OthersAreRe
 ghost use Rattle.later_laws.specs.Laws.{OwnAloneIsShown, ResultsAreRepliesOfRuns, RunsOnce};
 ghost use Rattle.later_laws.specs.Laws.{RunsRise, WhatIsAcceptableIsAccepted};
 ghost use Rattle.later_laws.specs.Laws.{WhatIsNotRunStays, WhatWaitsIsRun};
+ghost use Rattle.later_laws.specs.Sizes.{OpensWithin, ResultsStayWithin};
 ghost use Rattle.later_laws.specs.Sights.{EqualSightsAnswerAlikeLater, EqualSightsStayAlikeLater};
 
 /// After every list of events the entity inside is left by a legal history of the machine, which
@@ -48,6 +49,13 @@ pub fn accepted_requests_are_run_once_in_order()
 pub fn results_are_the_replies_of_runs()
     ensures results { ResultsAreRepliesOfRuns }
     ensures alone { KeptResultsAreOfRuns }
+{}
+
+/// The results that are kept have at most 64 MiB, and the bytes of one result, after every list of
+/// events.
+pub fn kept_results_are_bounded()
+    ensures opens { OpensWithin }
+    ensures stay { ResultsStayWithin }
 {}
 
 /// A reply that isn't that of the entity inside shows nothing but the number of a request that was

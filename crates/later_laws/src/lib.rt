@@ -5,7 +5,8 @@
 //! answered. The laws say of the turns of every list of events what the definitions promise: they
 //! are one legal history of the machine; accepted requests are run in order, and none twice; what
 //! is kept is the reply of that run; and an accepted request is shown to its originator alone, and
-//! goes when it is due or by its originator. Whatever comes, the CSE stays sound (specs/Sound).
+//! goes when it is due or by its originator. Whatever comes, the CSE stays sound (specs/Sound), and
+//! the results that are kept are bounded (specs/Sizes).
 //!
 //! Two CSEs of which an originator sees the same (specs/Sights) answer it alike, as long as nothing
 //! but its own requests is run by them.
@@ -24,6 +25,6 @@ pub use laws::{
     a_cse_that_answers_later_stays_sound, accepted_requests_are_run_once_in_order,
     an_accepted_request_goes_when_due_or_by_its_originator,
     an_accepted_request_is_shown_to_its_originator_alone, equal_sights_are_answered_alike_later,
-    results_are_the_replies_of_runs, the_entity_inside_has_a_legal_history,
-    what_may_be_accepted_is_accepted,
+    kept_results_are_bounded, results_are_the_replies_of_runs,
+    the_entity_inside_has_a_legal_history, what_may_be_accepted_is_accepted,
 };

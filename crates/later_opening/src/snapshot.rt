@@ -1,9 +1,13 @@
 //! The journal of a CSE that answers later, at its shortest.
-ghost use Rattle.std.specs.Prelude.{◌≡◌, ◌&&◌, nat_le, nat_lt, IfOk, OnOk};
+ghost use Rattle.std.specs.Prelude.{◌≡◌, ◌&&◌, ◌++◌, ℕ, false, flat_map, is_some, nat_le, nat_lt};
+ghost use Rattle.std.specs.Prelude.{true, IfOk, IsErrOf, OnOk};
+ghost use Rattle.std.specs.Option.{option_map_or};
 ghost use Rattle.entity_model.specs.Entity.{EntityData};
+ghost use Rattle.later_lines.specs.Keeping.{ran_value};
 ghost use Rattle.later_opening.specs.Making.{later_of};
 ghost use Rattle.later_opening.specs.Snapshots as spec;
-ghost use Rattle.later_opening.specs.Snapshots.{AppendsWords, IsLaterSnapshot};
+ghost use Rattle.later_opening.specs.Snapshots.{AppendsWords, CanBeKeptAt, HasLaterSnapshot};
+ghost use Rattle.later_opening.specs.Snapshots.{IsLaterSnapshot};
 
 use accepted_requests::{LaterEntry, LaterRequests};
 use entity_model::Entity;
@@ -14,7 +18,9 @@ use tree_model::Tree;
 
 /// Puts the lines of the result of an accepted request behind others, where it has one.
 fn push_result(alloc: Global, text: &mut Vec<u8>, entry: &LaterEntry) -> Result<(), LineFault>
-    ensures { OnOk result (spec.AppendsResult entry.now text.old.items text.new.items) }
+    ensures put { OnOk result (spec.AppendsResult entry.now text.old.items text.new.items) }
+    ensures unkept { IsErrOf result LineFault.Unkept → option_map_or
+        (λ reply. is_some (ran_value entry.now.number reply)) entry.now.reply true ≡ false }
 {
     match entry.reply() {
         Some(reply) => push_ran(alloc, text, entry.number(), reply),
@@ -38,7 +44,10 @@ fn push_entry(
     last: u64,
     entry: &LaterEntry,
 ) -> Result<(), LineFault>
-    ensures { OnOk result (spec.AppendsEntry moment last entry.now text.old.items text.new.items) }
+    ensures put { OnOk result
+        (spec.AppendsEntry moment last entry.now text.old.items text.new.items) }
+    ensures unkept { IsErrOf result LineFault.Unkept → nat_lt last entry.now.number
+        && nat_le entry.now.accepted moment && spec.is_readable entry.now ≡ false }
 {
     if !fits_behind(entry, moment, last) {
         return Err(LineFault::Unkept);
@@ -55,9 +64,14 @@ fn push_entries(
     moment: u64,
     entries: &[LaterEntry],
 ) -> Result<u64, LineFault>
-    ensures { IfOk result (λ last. (e : EntityData) → e.last ≡ moment
+    ensures put { IfOk result (λ last. (e : EntityData) → e.last ≡ moment
         → AppendsWords e (record { entries = entries.now; given = last }) text.old.items
         text.new.items) }
+    ensures lines { OnOk result
+        (text.new.items ≡ text.old.items ++ flat_map spec.entry_lines entries.now) }
+    ensures last { IfOk result (λ last. last ≡ spec.last_of 0 entries.now) }
+    ensures unkept { IsErrOf result LineFault.Unkept → (given : ℕ)
+        → ¬ CanBeKeptAt moment (record { entries = entries.now; given = given }) }
 {
     let mut last = 0;
     let mut place = 0;
@@ -78,8 +92,11 @@ fn push_requests(
     moment: u64,
     requests: &LaterRequests,
 ) -> Result<(), LineFault>
-    ensures { OnOk result ((e : EntityData) → e.last ≡ moment
+    ensures put { OnOk result ((e : EntityData) → e.last ≡ moment
         → AppendsWords e requests.now text.old.items text.new.items) }
+    ensures lines { OnOk result
+        (text.new.items ≡ text.old.items ++ spec.requests_lines requests.now) }
+    ensures unkept { IsErrOf result LineFault.Unkept → ¬ CanBeKeptAt moment requests.now }
 {
     let last = push_entries(alloc, text, moment, &requests.entries)?;
     if requests.given == last {
@@ -98,7 +115,10 @@ pub fn later_snapshot<T: Tree>(
     entity: &Entity<T>,
     requests: &LaterRequests,
 ) -> Result<Vec<u8>, LineFault>
-    ensures { IfOk result (λ bytes. IsLaterSnapshot (later_of entity.now requests.now) bytes.items) }
+    ensures snapshot { IfOk result
+        (λ bytes. IsLaterSnapshot (later_of entity.now requests.now) bytes.items) }
+    ensures unkept { IsErrOf result LineFault.Unkept
+        → ¬ HasLaterSnapshot (later_of entity.now requests.now) }
 {
     let mut text = snapshot_text(alloc, entity)?;
     push_requests(alloc, &mut text, entity.last, requests)?;

@@ -1,9 +1,11 @@
 -- How accepted requests are run.
-use Rattle.std.specs.Prelude.{◌≡◌, ◌⊎◌, ℕ, nat_lt, Bool, true, false, ◌&&◌, ◌||◌, List, [], ◌∷◌}
-use Rattle.std.specs.Prelude.{Option, Some, None, IsTrue}
+use Rattle.std.specs.Prelude.{◌≡◌, ◌⊎◌, ℕ, ◌+◌, ◌<◌, nat_lt, Bool, true, false, ◌&&◌, ◌||◌, List, []}
+use Rattle.std.specs.Prelude.{◌∷◌, Option, Some, None, IsTrue, ⊤}
+use Rattle.m2m_value.specs.Spelling.{capped}
 use Rattle.primitive_json.specs.declared.reply.ReplyParts.{ReplyParts}
 use Rattle.primitive_json.specs.declared.request.RequestParts.{RequestParts}
 use Rattle.entity_model.specs.Entity.{EntityData}
+use Rattle.accepted_requests.specs.Sizes.{most_kept, result_size}
 use Rattle.cse_machine.specs.Answer.{starved}
 use Rattle.cse_machine.specs.Step.{Step}
 use Rattle.cse_machine.specs.declared.event.Event.{Event}
@@ -67,3 +69,29 @@ ArePassed reading runs (e ∷ entries) before then after =
     (first : LaterEntryData) × (between : EntityData) × (later : List LaterEntryData)
     × (then ≡ first ∷ later) × IsPassed reading runs e before first between
     × ArePassed reading runs entries between later after
+
+-- ---- how much is kept
+
+-- An entry that is run where so many bytes of results are kept: where these are more than may be,
+-- its result is the one for which memory runs out.
+abbrev pub IsBounded : Bool → ℕ → LaterEntryData → LaterEntryData → Type 0
+IsBounded runs kept e ran = runs ≡ true → most_kept < kept → ran ≡ with_outcome e (Starved 0)
+
+-- how many bytes of results are kept then: those of its own are more, if it is run
+abbrev pub kept_then : Bool → ℕ → LaterEntryData → ℕ
+kept_then true kept ran = kept + result_size ran
+kept_then false kept ran = kept
+
+-- the same as a number that ends at 2^64 - 1
+abbrev pub counted_then : Bool → ℕ → LaterEntryData → ℕ
+counted_then true kept ran = capped (kept + result_size ran)
+counted_then false kept ran = kept
+
+-- So it is of each of the entries that are run, in their order, where so many bytes of results are
+-- kept before.
+abbrev pub AreBounded : (LaterEntryData → Bool) → ℕ → List LaterEntryData → List LaterEntryData
+    → Type 0
+AreBounded runs kept [] then = ⊤
+AreBounded runs kept (e ∷ entries) [] = ⊤
+AreBounded runs kept (e ∷ entries) (ran ∷ then) =
+    IsBounded (runs e) kept e ran × AreBounded runs (kept_then (runs e) kept ran) entries then

@@ -10,10 +10,11 @@ use Rattle.cse_machine.specs.declared.event.Event.TheVariants.{Ask, Take, Tick}
 use Rattle.cse_machine.specs.declared.event.Outcome.{Outcome}
 use Rattle.cse_machine.specs.declared.event.Outcome.TheVariants.{Done, Forward, Item, Ticked}
 use Rattle.cse_machine.specs.declared.event.Outcome.TheVariants.{Starved}
+use Rattle.accepted_requests.specs.Sizes.{results_size}
 use Rattle.later_replies.specs.Effects.{LaterEffect, is_heard, later_effect}
 use Rattle.later_replies.specs.Entries.{LaterData, LaterRequestsData}
 use Rattle.later_replies.specs.Entries.{still_standing}
-use Rattle.later_replies.specs.Runs.{ArePassed, is_to_run}
+use Rattle.later_replies.specs.Runs.{AreBounded, ArePassed, is_to_run}
 
 -- what comes of a request for which the entity inside has this outcome, where it is more than that
 abbrev pub asked_effect : HomeData → LaterRequestsData → ℕ → RequestParts → Outcome
@@ -65,8 +66,8 @@ pub record IsTakenLater (reading moment : ℕ) (event : Event) (before : EntityD
       outcome left
 
 -- What an event at a reading of the clock may give, and what it may leave. First the requests that
--- wait are run, each as a step of the entity inside. Then those that are due go. Then the event is
--- taken.
+-- wait are run, each as a step of the entity inside; none is done for which too much is kept. Then
+-- those that are due go. Then the event is taken.
 pub record LaterStep (reading : ℕ) (event : Event) (before : LaterData) (outcome : Outcome)
     (after : LaterData) : Type 0 where
   pub moment : ℕ
@@ -75,6 +76,8 @@ pub record LaterStep (reading : ℕ) (event : Event) (before : LaterData) (outco
   pub between : EntityData
   pub runs : ArePassed reading (is_to_run moment event) before.requests.entries before.inner
       ran.entries between
+  pub bounded : AreBounded (is_to_run moment event) (results_size before.requests.entries)
+      before.requests.entries ran.entries
   pub given : ran.given ≡ before.requests.given
   pub taken : IsTakenLater reading moment event between (still_standing moment ran) outcome
       after.inner after.requests

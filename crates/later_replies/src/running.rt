@@ -2,10 +2,12 @@
 ghost use Rattle.std.specs.Prelude.{◌≡◌, ◌&&◌, ◌||◌, nat_lt, true, false};
 ghost use Rattle.primitive_json.specs.declared.request.RequestParts.{RequestParts};
 ghost use Rattle.accepted_requests.specs.Entries.{does_wait, finished};
+ghost use Rattle.accepted_requests.specs.Sizes as sizes;
 ghost use Rattle.cse_machine.specs.declared.event.Event.TheVariants.{Ask};
+ghost use Rattle.cse_machine.specs.declared.event.Outcome.TheVariants.{Starved};
 ghost use Rattle.later_replies.specs.Runs as spec;
 
-use accepted_requests::{LaterEntry, LaterRequests};
+use accepted_requests::{LaterEntry, LaterRequests, leave_no_room, results_size};
 use cse_machine::{Event, Outcome, step};
 use entity_model::Entity;
 use primitive_json::Reply;
@@ -57,20 +59,57 @@ fn run<T: Tree>(alloc: Global, entity: &mut Entity<T>, reading: u64, entry: &mut
     finish(entry, event, outcome);
 }
 
-// Runs an entry, if an event at this moment does.
+// Answers an entry as one for which memory runs out: what is due goes, and nothing else is done.
+fn starve<T: Tree>(alloc: Global, entity: &mut Entity<T>, reading: u64, entry: &mut LaterEntry)
+    requires { does_wait entry.old ≡ true }
+    ensures run { spec.IsRun reading entry.old entity.old entry.new entity.new }
+    ensures starved { entry.new ≡ spec.with_outcome entry.old (Starved 0) }
+{
+    let request = entry.begin(alloc);
+    drop(step(alloc, entity, reading, &Event::Tick));
+    entry.finish(request, None);
+}
+
+// Runs an entry where so many bytes of results are kept, unless these leave no room for more.
+fn run_if_room<T: Tree>(
+    alloc: Global,
+    entity: &mut Entity<T>,
+    reading: u64,
+    kept: u64,
+    entry: &mut LaterEntry,
+)
+    requires { does_wait entry.old ≡ true }
+    ensures run { spec.IsRun reading entry.old entity.old entry.new entity.new }
+    ensures bounded { spec.IsBounded true kept entry.old entry.new }
+{
+    if leave_no_room(kept) {
+        starve(alloc, entity, reading, entry);
+    } else {
+        run(alloc, entity, reading, entry);
+    }
+}
+
+// Runs an entry where so many bytes of results are kept, if it is to be run; and tells how many are
+// kept then.
 fn pass<T: Tree>(
     alloc: Global,
     entity: &mut Entity<T>,
     reading: u64,
-    moment: u64,
-    runs_all: bool,
+    is_run: bool,
+    kept: u64,
     entry: &mut LaterEntry,
-)
-    ensures { spec.IsPassed reading (λ e. does_wait e && (runs_all || nat_lt e.accepted moment))
+) -> u64
+    requires { is_run ≡ true → does_wait entry.old ≡ true }
+    ensures passed { spec.IsPassed reading (λ e. is_run)
         entry.old entity.old entry.new entity.new }
+    ensures bounded { spec.IsBounded is_run kept entry.old entry.new }
+    ensures kept { result ≡ spec.counted_then is_run kept entry.new }
 {
-    if entry.is_to_run(moment, runs_all) {
-        run(alloc, entity, reading, entry);
+    if is_run {
+        run_if_room(alloc, entity, reading, kept, entry);
+        kept.saturating_add(entry.result_size())
+    } else {
+        kept
     }
 }
 
@@ -83,14 +122,20 @@ fn pass_all<T: Tree>(
     runs_all: bool,
     entries: &mut Vec<LaterEntry>,
 )
-    ensures { spec.ArePassed reading
+    ensures passed { spec.ArePassed reading
         (λ e. does_wait e && (runs_all || nat_lt e.accepted moment))
         entries.old.items entity.old entries.new.items entity.new }
+    ensures bounded { spec.AreBounded
+        (λ e. does_wait e && (runs_all || nat_lt e.accepted moment))
+        (sizes.results_size entries.old.items)
+        entries.old.items entries.new.items }
 {
     let mut place = 0;
+    let mut kept = results_size(entries);
     'each: while place < entries.len() {
         let entry = &mut entries[place];
-        pass(alloc, entity, reading, moment, runs_all, entry);
+        let is_run = entry.is_to_run(moment, runs_all);
+        kept = pass(alloc, entity, reading, is_run, kept, entry);
         place += 1;
     }
 }
@@ -104,14 +149,16 @@ fn run_entries<T: Tree>(
     event: &Event,
     entries: &mut Vec<LaterEntry>,
 )
-    ensures { spec.ArePassed reading (spec.is_to_run moment event.now)
+    ensures passed { spec.ArePassed reading (spec.is_to_run moment event.now)
         entries.old.items entity.old entries.new.items entity.new }
+    ensures bounded { spec.AreBounded (spec.is_to_run moment event.now)
+        (sizes.results_size entries.old.items) entries.old.items entries.new.items }
 {
     pass_all(alloc, entity, reading, moment, runs_all(event), entries);
 }
 
 /// Runs those of the accepted requests that the event does, in their order, each as one step of the
-/// entity.
+/// entity; none is done where more is kept of results than may be.
 pub(crate) fn run_requests<T: Tree>(
     alloc: Global,
     entity: &mut Entity<T>,
@@ -122,6 +169,8 @@ pub(crate) fn run_requests<T: Tree>(
 )
     ensures passed { spec.ArePassed reading (spec.is_to_run moment event.now)
         requests.old.entries entity.old requests.new.entries entity.new }
+    ensures bounded { spec.AreBounded (spec.is_to_run moment event.now)
+        (sizes.results_size requests.old.entries) requests.old.entries requests.new.entries }
     ensures given { requests.new.given ≡ requests.old.given }
 {
     run_entries(alloc, entity, reading, moment, event, &mut requests.entries);

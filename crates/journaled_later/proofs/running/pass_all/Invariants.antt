@@ -6,7 +6,7 @@ use Rattle.journaled_later.proofs.running.pass_all.Given as goal
 
 abbrev pub invariant-each : goal.invariant-each
 invariant-each g l =
-    RecordedSoFar l.reading (λ (e : LaterEntryData). does_wait e && (l.runs_all || nat_lt e.accepted l.moment)) l.place l.initial.entries.items l.initial.entity l.initial.lines.items
+    RecordedSoFar l.reading (λ (e : LaterEntryData). does_wait e && (l.runs_all || nat_lt e.accepted l.moment)) l.place l.kept l.initial.entries.items l.initial.entity l.initial.lines.items
     l.entries.items l.entity l.lines.items
 
 abbrev pub decreases-each : goal.decreases-each

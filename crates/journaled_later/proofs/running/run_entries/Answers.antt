@@ -1,7 +1,8 @@
 use Rattle.std.proofs.Common.{Bool, ◌&&◌, ◌||◌, subst}
 use Rattle.std.specs.Prelude.{nat_lt}
 use Rattle.accepted_requests.specs.Entries.{LaterEntryData, does_wait}
-use Rattle.later_replies.specs.Runs.{ArePassed}
+use Rattle.later_replies.specs.Runs.{AreBounded, ArePassed}
+use Rattle.accepted_requests.specs.Sizes.{results_size}
 use Rattle.journaled_later.proofs.RunLemmas.{on_each}
 use Rattle.journaled_later.proofs.running.run_entries.Goals as goal
 
@@ -10,6 +11,12 @@ returns-clause-passed g c =
     on_each _ _ (λ u passed.
     subst (λ (all : Bool). ArePassed c.args.reading (λ (e : LaterEntryData). does_wait e && (all || nat_lt e.accepted c.args.moment)) c.args.entries.now.items c.args.entity.now c.pass_all.new.entries.items c.pass_all.new.entity)
     c.runs_whatever.ensures passed) c.pass_all.result c.pass_all.ensures.passed
+
+pub returns-clause-bounded : goal.returns-clause-bounded
+returns-clause-bounded g c =
+    on_each _ _ (λ u bounded.
+    subst (λ (all : Bool). AreBounded (λ (e : LaterEntryData). does_wait e && (all || nat_lt e.accepted c.args.moment)) (results_size c.args.entries.now.items) c.args.entries.now.items c.pass_all.new.entries.items)
+    c.runs_whatever.ensures bounded) c.pass_all.result c.pass_all.ensures.bounded
 
 pub returns-clause-records : goal.returns-clause-records
 returns-clause-records g c = c.pass_all.ensures.records

@@ -6,7 +6,7 @@ use Rattle.later_replies.proofs.running.pass_all.Given as goal
 
 abbrev pub invariant-each : goal.invariant-each
 invariant-each g l =
-    PassedSoFar l.reading (λ (e : LaterEntryData). does_wait e && (l.runs_all || nat_lt e.accepted l.moment)) l.place l.initial.entries.items l.initial.entity l.entries.items l.entity
+    PassedSoFar l.reading (λ (e : LaterEntryData). does_wait e && (l.runs_all || nat_lt e.accepted l.moment)) l.place l.kept l.initial.entries.items l.initial.entity l.entries.items l.entity
 
 abbrev pub decreases-each : goal.decreases-each
 decreases-each g l = length l.initial.entries.items - l.place

@@ -16,6 +16,7 @@ returns g c =
       ran = ran.requests;
       between = ran.entity;
       runs = c.run_requests.ensures.passed;
+      bounded = c.run_requests.ensures.bounded;
       given = c.run_requests.ensures.given;
       taken =
           subst (λ (standing : LaterRequestsData). IsTakenLater c.args.reading moment c.args.event.now ran.entity standing taken.result taken.new.entity taken.new.requests) c.drop_due.ensures taken.ensures;

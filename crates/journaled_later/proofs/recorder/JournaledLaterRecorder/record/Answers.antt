@@ -21,6 +21,7 @@ returns-clause-step g c =
       ran = ran.requests;
       between = ran.entity;
       runs = c.in_ok-run_requests.ensures.passed;
+      bounded = c.in_ok-run_requests.ensures.bounded;
       given = c.run_requests.ensures.given;
       taken =
           subst (λ (standing : LaterRequestsData). IsTakenKept c.args.reading moment c.args.event.now ran.entity standing outcome taken.entity taken.requests) c.in_ok-drop_due.ensures.gone is;

@@ -12,5 +12,5 @@ pub returns-in-Ok : goal.returns-in-Ok
 returns-in-Ok g c =
     let bytes = c.in-Ok.bytes.items in
     let requests = c.self.inside.requests in
-    let is : IsLaterSnapshot (later_of c.self.inside.entity requests) bytes = subst (λ (e : EntityData). IsLaterSnapshot (later_of e requests) bytes) c.entity.ensures c.in-Ok.ensures in
+    let is : IsLaterSnapshot (later_of c.self.inside.entity requests) bytes = subst (λ (e : EntityData). IsLaterSnapshot (later_of e requests) bytes) c.entity.ensures c.in-Ok.ensures.snapshot in
     record { keeps = subst (λ (d : LaterData). IsKeptAtRest KeepsLater d bytes) c.self.view_is (snapshot_keeps _ bytes is) }
