@@ -1,3 +1,4 @@
+pub mod Came
 pub mod Kept
 pub mod Losses
 pub mod Machine

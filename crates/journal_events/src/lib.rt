@@ -5,7 +5,8 @@
 //! So `Next` tells which item is to be sent, and leaves it in the outbox. Once it was sent,
 //! `Sent` with its number takes it. A crash in between leaves it there, and it is sent once more.
 //! If it isn't the next item any more, as it has waited too long or its channel was made, `Sent`
-//! takes nothing, and who sends looks again (specs/Steps).
+//! takes nothing, and who sends looks again (specs/Steps). What came of an event is handed on as a
+//! `Came`, which has few bytes.
 //!
 //! Laws say which events of the machine have to be kept, so that playing them again makes the
 //! entity that all of them made. An event is kept with the moment that the entity has after it, and
@@ -20,9 +21,11 @@
 //! ```
 #![tactic(auto)]
 
+mod came;
 mod event;
 mod laws;
 
+pub use came::Came;
 pub use event::{KeptEvent, KeptOutcome};
 pub use laws::{
     a_sweep_that_takes_nothing_changes_nothing, an_item_stays_until_it_was_sent,

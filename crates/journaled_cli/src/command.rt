@@ -25,7 +25,7 @@ use crate::serve::serve_door;
 use crate::streams::CommandStreams;
 use command_words::{Command, Task, answers_later, may_keep};
 use cse_cli::{NoObserver, RunObserver, Server, seed, told};
-use journal_events::{KeptEvent, KeptOutcome};
+use journal_events::{Came, KeptEvent};
 use journal_opening::OpeningFault;
 use journaled_entity::{Journaled, Unopened, open_kept};
 use journaled_later::{JournaledLater, open_later};
@@ -196,7 +196,7 @@ fn do_task<
 ) -> Status
 where
     R: Wait + Threads + Clone + Drop + Sync,
-    K: Recorder<Event = KeptEvent, Outcome = KeptOutcome> + Send + Drop,
+    K: Recorder<Event = KeptEvent, Outcome = Came> + Send + Drop,
     F: NamedFile + Send + Drop,
     D: Drop,
     C: Drop,

@@ -7,7 +7,7 @@ ghost use Rattle.journaled_cli.specs.Run as spec;
 ghost use Rattle.journaled_cli.specs.Run.{KeptTurns, SendsBehind, ServesStreams, EndsBehind};
 
 use cse_server::{Bench, Ended, Wire};
-use journal_events::{KeptEvent, KeptOutcome};
+use journal_events::{Came, KeptEvent};
 use journaled_server::{send_kept_alone, serve_kept_alone};
 use kept_file::NamedFile;
 use kept_object::{KeptObject, Recorder};
@@ -27,7 +27,7 @@ fn send_behind<K, F: NamedFile, C: Clock, L: Link + ItemObserver>(
     whole: Status,
 ) -> Status
 where
-    K: Recorder<Event = KeptEvent, Outcome = KeptOutcome>,
+    K: Recorder<Event = KeptEvent, Outcome = Came>,
     ensures { (left : Option (List ℕ)) → (out : SinkTold)
         → SendsBehind (KeptGrown (IsOwnRun (KeptTurns K.step K.keeps F.tells F.seen F.may_leave
         F.moment F.left_since))) seat.old seat.new (outside left out (C.readings bench.old.clock)
@@ -51,7 +51,7 @@ fn finish<K, F: NamedFile, C: Clock, L: Link + ItemObserver>(
     ended: Ended,
 ) -> Status
 where
-    K: Recorder<Event = KeptEvent, Outcome = KeptOutcome>,
+    K: Recorder<Event = KeptEvent, Outcome = Came>,
     ensures { (left : Option (List ℕ)) → (out : SinkTold)
         → EndsBehind (KeptGrown (IsOwnRun (KeptTurns K.step K.keeps F.tells F.seen F.may_leave
         F.moment F.left_since))) ended seat.old seat.new (outside left out (C.readings bench.old.clock)
@@ -85,7 +85,7 @@ pub(crate) fn status_of<O: Drop, F: NamedFile + Drop>(
 /// Serves input and output as one connection of what is kept, for the CSE of this home,
 /// also for members of groups at other CSEs, and sends the items that this leaves in the outbox.
 pub(crate) fn serve_streams<
-    K: Recorder<Event = KeptEvent, Outcome = KeptOutcome> + Drop,
+    K: Recorder<Event = KeptEvent, Outcome = Came> + Drop,
     F: NamedFile + Drop,
     S: Source,
     O: Sink,

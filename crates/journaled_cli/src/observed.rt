@@ -2,7 +2,7 @@
 ghost use Rattle.std.specs.Prelude.{◌≡◌};
 
 use cse_cli::{NoObserver, RunObserver, tell_runs};
-use journal_events::{KeptEvent, KeptOutcome};
+use journal_events::{Came, KeptEvent};
 use journaled_later::JournaledLater;
 use kept_file::KeptFile;
 use kept_object::{KeptObject, Recorder};
@@ -52,21 +52,16 @@ impl<T: Tree, W: RunObserver> Recorder for ObservedKept<T, W> {
 
     type Event = KeptEvent;
 
-    type Outcome = KeptOutcome;
+    type Outcome = Came;
 
     ghost step = { KeptLaterStep };
 
     ghost keeps = { KeepsLater };
 
-    fn record(
-        &mut self,
-        reading: u64,
-        event: &KeptEvent,
-        lines: &mut Vec<u8>,
-    ) -> Option<KeptOutcome> {
-        let outcome = self.later.record(reading, event, lines)?;
+    fn record(&mut self, reading: u64, event: &KeptEvent, lines: &mut Vec<u8>) -> Option<Came> {
+        let came = self.later.record(reading, event, lines)?;
         self.told = tell_runs(&self.later.requests().entries, self.told, &self.observer);
-        Some(outcome)
+        Some(came)
     }
 
     fn snapshot(&self) -> Option<Vec<u8>> {

@@ -14,7 +14,7 @@ use command_words::{Bind, Serving};
 use cse_cli::benches_for;
 use cse_server::{Attended, Bench, ServeFault};
 use desk_replies::{Binding, Plainly};
-use journal_events::{KeptEvent, KeptOutcome};
+use journal_events::{Came, KeptEvent};
 use journaled_server::{LossDoor, LossSignal, serve_journaled};
 use kept_desk::{Report, Turn};
 use kept_file::NamedFile;
@@ -46,7 +46,7 @@ fn serve_at_desk<R, O, D, C, L, A, P>(
 ) -> Option<(O, Status)>
 where
     R: Wait + Threads + Drop + Sync,
-    O: Object<Event = Turn<KeptEvent>, Outcome = Report<KeptOutcome>> + Send + Drop,
+    O: Object<Event = Turn<KeptEvent>, Outcome = Report<Came>> + Send + Drop,
     D: Door + Send + Drop,
     C: Clock + Send + Drop,
     L: Link + ItemObserver + Send + Drop,
@@ -97,7 +97,7 @@ fn serve_kept<R, K, F, D, C, L, A, P>(
 ) -> Status
 where
     R: Wait + Threads + Drop + Sync,
-    K: Recorder<Event = KeptEvent, Outcome = KeptOutcome> + Send + Drop,
+    K: Recorder<Event = KeptEvent, Outcome = Came> + Send + Drop,
     F: NamedFile + Send + Drop,
     D: Door + Send + Drop,
     C: Clock + Send + Drop,
@@ -135,7 +135,7 @@ fn serve_bound<R, K, F, D, C, L>(
 ) -> Status
 where
     R: Wait + Threads + Drop + Sync,
-    K: Recorder<Event = KeptEvent, Outcome = KeptOutcome> + Send + Drop,
+    K: Recorder<Event = KeptEvent, Outcome = Came> + Send + Drop,
     F: NamedFile + Send + Drop,
     D: Door + Send + Drop,
     D::Conn: ReplyObserver,
@@ -185,7 +185,7 @@ pub(crate) fn serve_door<R, K, F, D, C, L>(
 ) -> Status
 where
     R: Wait + Threads + Clone + Drop + Sync,
-    K: Recorder<Event = KeptEvent, Outcome = KeptOutcome> + Send + Drop,
+    K: Recorder<Event = KeptEvent, Outcome = Came> + Send + Drop,
     F: NamedFile + Send + Drop,
     D: Door + Send + Drop,
     D::Conn: ReplyObserver,

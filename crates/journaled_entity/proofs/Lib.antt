@@ -5,3 +5,4 @@ pub mod CrashLemmas
 pub mod SendingLemmas
 pub mod ItemLemmas
 pub mod RunLemmas
+pub mod HandingLemmas

@@ -4,3 +4,4 @@ pub mod Opened
 pub mod Losses
 pub mod Crashes
 pub mod Written
+pub mod Handing

@@ -25,6 +25,7 @@
 #![tactic(auto)]
 
 mod changes;
+mod handing;
 mod laws;
 mod lines;
 mod opening;
@@ -32,6 +33,7 @@ mod recording;
 mod sending;
 
 pub use changes::may_change;
+pub use handing::hand_on;
 pub use laws::{
     no_item_is_lost, what_may_not_change_is_an_expiry, what_was_answered_is_opened_again,
 };

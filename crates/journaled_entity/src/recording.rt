@@ -20,11 +20,12 @@ ghost use Rattle.journaled_entity.specs.Keeping.{KeepsEntity};
 ghost use Rattle.journaled_entity.specs.Written.{pushed};
 
 use crate::changes::may_change;
+use crate::handing::{hand_on, hand_outcome_on};
 use crate::lines::{push_event, push_expiry, push_taking};
 use crate::sending::{copied_next, take_numbered};
 use cse_machine::{Event, ObservedStep, Outcome, observe_step};
 use entity_model::{Entity, event_moment};
-use journal_events::{KeptEvent, KeptOutcome};
+use journal_events::{Came, KeptEvent, KeptOutcome};
 use journal_opening::snapshot_bytes;
 use kept_object::Recorder;
 use notify_outbox::Item;
@@ -401,18 +402,13 @@ impl<T: Tree> Journaled<T> {
 impl<T: Tree> Recorder for Journaled<T> {
     type Event = KeptEvent;
 
-    type Outcome = KeptOutcome;
+    type Outcome = Came;
 
     ghost step = { KeptEntityStep };
 
     ghost keeps = { KeepsEntity };
 
-    fn record(
-        &mut self,
-        reading: u64,
-        event: &KeptEvent,
-        lines: &mut Vec<u8>,
-    ) -> Option<KeptOutcome>
+    fn record(&mut self, reading: u64, event: &KeptEvent, lines: &mut Vec<u8>) -> Option<Came>
         ensures step { IfSome result
             (λ outcome. KeptEntityStep reading event.now self.old outcome self.new) }
         ensures records { IfSome result
@@ -426,10 +422,16 @@ impl<T: Tree> Recorder for Journaled<T> {
         match event {
             KeptEvent::OfMachine(asked) => {
                 let outcome = self.record_event(reading, asked, lines)?;
-                Some(KeptOutcome::OfMachine(outcome))
+                hand_outcome_on(self.alloc(), outcome)
             }
-            KeptEvent::Next => self.record_look(reading, lines),
-            KeptEvent::Sent(number) => self.record_sent(reading, *number, lines),
+            KeptEvent::Next => {
+                let told = self.record_look(reading, lines)?;
+                hand_on(self.alloc(), told)
+            }
+            KeptEvent::Sent(number) => {
+                let taken = self.record_sent(reading, *number, lines)?;
+                hand_on(self.alloc(), taken)
+            }
         }
     }
 

@@ -1,5 +1,6 @@
 pub mod AnswerLemmas
 pub mod CrashLemmas
+pub mod HandedLemmas
 pub mod MachineLemmas
 pub mod OnceLemmas
 pub mod OpenLemmas

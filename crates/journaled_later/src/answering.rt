@@ -20,13 +20,13 @@ ghost use Rattle.journaled_later.specs.Recorded as spec;
 ghost use Rattle.journaled_later.specs.Recorded.{RecordsLater};
 ghost use Rattle.journaled_later.specs.Steps.{IsTakenKept, request_of};
 
+use crate::inside::record_inside;
 use accepted_requests::{Asked, LaterEntry, LaterRequests};
 use cse_machine::{Event, Outcome};
 use entity_model::{Entity, event_moment};
 use journal_events::{KeptEvent, KeptOutcome};
 use journal_lines::{is_within, push_tick};
 use journaled_entity::Journaled;
-use kept_object::Recorder;
 use later_lines::{push_accepted, push_gone};
 use later_replies::{answer, asked_by};
 use m2m_value::Val;
@@ -237,7 +237,7 @@ fn pass_over<T: Tree>(
         (λ _. RecordsLater entity.old standing lines.old.items entity.new standing
         lines.new.items) }
 {
-    let ticked = entity.record(reading, &KeptEvent::OfMachine(Event::Tick), lines)?;
+    let ticked = record_inside(entity, reading, &KeptEvent::OfMachine(Event::Tick), lines)?;
     drop(ticked);
     Some(KeptOutcome::OfMachine(Outcome::Starved { done: 0 }))
 }
@@ -260,13 +260,13 @@ pub(crate) fn take_event<T: Tree>(
         entity.new requests.new lines.new.items) }
 {
     let Some(request) = request_of(event) else {
-        return entity.record(reading, event, lines);
+        return record_inside(entity, reading, event, lines);
     };
     if !is_shallow(&request.parts().pc) {
         return pass_over(entity, reading, lines);
     }
     let asked = asked_by(entity.entity(), requests, request);
-    match entity.record(reading, event, lines)? {
+    match record_inside(entity, reading, event, lines)? {
         KeptOutcome::OfMachine(told) => {
             let (stood, outcome) = answer_asked(alloc, requests, request, asked, moment, told);
             let inside = entity.entity();

@@ -25,6 +25,7 @@
 #![tactic(auto)]
 
 mod answering;
+mod inside;
 mod laws;
 mod opening;
 mod recorder;

@@ -8,8 +8,8 @@ use crate::answering::take_event;
 use crate::running::{drop_due, run_requests};
 use accepted_requests::LaterRequests;
 use entity_model::{Entity, event_moment};
-use journal_events::{KeptEvent, KeptOutcome};
-use journaled_entity::Journaled;
+use journal_events::{Came, KeptEvent};
+use journaled_entity::{Journaled, hand_on};
 use kept_object::Recorder;
 use later_opening::later_snapshot;
 use std::alloc::Global;
@@ -76,18 +76,13 @@ impl<T: Tree> Recorder for JournaledLater<T> {
 
     type Event = KeptEvent;
 
-    type Outcome = KeptOutcome;
+    type Outcome = Came;
 
     ghost step = { KeptLaterStep };
 
     ghost keeps = { KeepsLater };
 
-    fn record(
-        &mut self,
-        reading: u64,
-        event: &KeptEvent,
-        lines: &mut Vec<u8>,
-    ) -> Option<KeptOutcome> {
+    fn record(&mut self, reading: u64, event: &KeptEvent, lines: &mut Vec<u8>) -> Option<Came> {
         let moment = moment_of(self.entity.entity(), reading);
         run_requests(
             &mut self.entity,
@@ -99,7 +94,7 @@ impl<T: Tree> Recorder for JournaledLater<T> {
             lines,
         )?;
         drop_due(self.alloc, &mut self.requests, moment, lines)?;
-        take_event(
+        let outcome = take_event(
             &mut self.entity,
             self.alloc,
             &mut self.requests,
@@ -107,7 +102,8 @@ impl<T: Tree> Recorder for JournaledLater<T> {
             moment,
             event,
             lines,
-        )
+        )?;
+        hand_on(self.alloc, outcome)
     }
 
     fn snapshot(&self) -> Option<Vec<u8>> {

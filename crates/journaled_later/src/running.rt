@@ -18,11 +18,11 @@ ghost use Rattle.later_opening.specs.Snapshots.{AppendsResult};
 ghost use Rattle.journaled_later.specs.Recorded.{RecordsLater, RecordsRun};
 ghost use Rattle.journaled_later.specs.Steps as spec;
 
+use crate::inside::record_inside;
 use accepted_requests::{LaterEntry, LaterRequests, leave_no_room, results_size};
 use cse_machine::{Event, Outcome};
 use journal_events::{KeptEvent, KeptOutcome};
 use journaled_entity::Journaled;
-use kept_object::Recorder;
 use later_lines::{push_due, push_ran};
 use primitive_json::Reply;
 use std::alloc::Global;
@@ -89,7 +89,7 @@ fn run<T: Tree>(
         entry.new entity.new lines.new.items) }
 {
     let event = KeptEvent::OfMachine(Event::Ask(entry.begin(alloc)));
-    let outcome = entity.record(reading, &event, lines)?;
+    let outcome = record_inside(entity, reading, &event, lines)?;
     finish(entry, event, outcome);
     push_result(alloc, lines, entry)
 }
@@ -124,7 +124,7 @@ fn starve<T: Tree>(
         entry.new entity.new lines.new.items) }
 {
     let request = entry.begin(alloc);
-    let came = entity.record(reading, &KeptEvent::OfMachine(Event::Tick), lines)?;
+    let came = record_inside(entity, reading, &KeptEvent::OfMachine(Event::Tick), lines)?;
     drop(came);
     entry.finish(request, None);
     push_result(alloc, lines, entry)

@@ -10,13 +10,11 @@ use Rattle.cse_machine.specs.declared.event.Outcome.TheVariants.{Starved}
 use Rattle.journal_events.specs.declared.event.KeptEvent.{KeptEvent}
 use Rattle.journal_events.specs.declared.event.KeptEvent.TheVariants as event
 use Rattle.journal_events.specs.declared.event.KeptOutcome.{KeptOutcome}
-use Rattle.journal_events.specs.declared.event.KeptOutcome.TheVariants as outcome
+use Rattle.journal_events.specs.Came.{machine_outcome}
 
 -- the outcome of the machine where it is kept; where it is lost, that memory ran out
 abbrev pub plain_outcome : Answer KeptOutcome → Outcome
-plain_outcome (Kept (outcome.OfMachine came)) = came
-plain_outcome (Kept (outcome.Next given)) = Starved 0
-plain_outcome (Kept outcome.Taken) = Starved 0
+plain_outcome (Kept came) = machine_outcome came
 plain_outcome Lost = Starved 0
 
 -- an event of the machine and its answer as an entry of the machine; other events are none

@@ -10,7 +10,7 @@ ghost use Rattle.journaled_server.specs.Serving.{AnswersGrown};
 use crate::{LossSignal, PlainDesk, send_kept};
 use cse_server::{Answerer, Ended};
 use desk_replies::Replier;
-use journal_events::{KeptEvent, KeptOutcome};
+use journal_events::{Came, KeptEvent};
 use kept_desk::{KeptDesk, Report, Turn};
 use m2m_io::{Clock, Connection, Link};
 use service_observer::{ItemObserver, ReplyObserver};
@@ -28,7 +28,7 @@ pub fn serve_kept_alone<O, X, C, L, W>(
     replier: &W,
 ) -> Ended
 where
-    O: Object<Event = Turn<KeptEvent>, Outcome = Report<KeptOutcome>>,
+    O: Object<Event = Turn<KeptEvent>, Outcome = Report<Came>>,
     X: Connection + ReplyObserver,
     C: Clock,
     L: Link,
@@ -64,7 +64,7 @@ pub fn send_kept_alone<O, C, L>(
     link: &mut L,
 ) -> Result<u64, OutOfMemory>
 where
-    O: Object<Event = Turn<KeptEvent>, Outcome = Report<KeptOutcome>>,
+    O: Object<Event = Turn<KeptEvent>, Outcome = Report<Came>>,
     C: Clock,
     L: Link + ItemObserver,
     ensures { SendsThenTakes (KeptGrown (IsOwnRun O.step))

@@ -2,12 +2,13 @@
 ghost use Rattle.std.specs.Prelude.{◌≡◌, ◌⊎◌, true, false, OnOk, OnErr};
 ghost use Rattle.cse_server.specs.Outside.{LinkTold, link_told};
 ghost use Rattle.journaled_server.specs.Sending.{LooksNext, SaysSent, SendsLooked};
-ghost use Rattle.journaled_server.specs.Sending.{SendsThenTakes, sender};
+ghost use Rattle.journaled_server.specs.Sending.{SendsThenTakes, TellsTaken, sender};
+ghost use Rattle.kept_desk.specs.declared.turn.Answer.TheVariants.{Kept};
 
 use crate::LossSignal;
 use crate::carrying::{Carried, carry};
 use cse_server::MOST_ITEMS;
-use journal_events::{KeptEvent, KeptOutcome};
+use journal_events::{Came, KeptEvent, KeptOutcome};
 use kept_desk::Answer;
 use m2m_io::{Clock, Link};
 use notify_outbox::Item;
@@ -23,7 +24,7 @@ fn look<D, C>(
     clock: &mut C,
 ) -> Result<Option<Item>, OutOfMemory>
 where
-    D: Desk<Event = KeptEvent, Outcome = Answer<KeptOutcome>>,
+    D: Desk<Event = KeptEvent, Outcome = Answer<Came>>,
     C: Clock,
     requires { D.seats desk.now seat.old }
     ensures seats { D.seats desk.now seat.new }
@@ -33,12 +34,24 @@ where
 {
     let reading = clock.now();
     match desk.ask(seat, reading, KeptEvent::Next) {
-        Answer::Kept(KeptOutcome::Next(item)) => Ok(item),
-        Answer::Kept(KeptOutcome::OfMachine(_) | KeptOutcome::Taken) => Err(OutOfMemory),
+        Answer::Kept(came) => match came.into_outcome() {
+            KeptOutcome::Next(item) => Ok(item),
+            KeptOutcome::OfMachine(_) | KeptOutcome::Taken => Err(OutOfMemory),
+        },
         Answer::Lost => {
             losses.raise();
             Err(OutOfMemory)
         }
+    }
+}
+
+/// Whether it came that the item is taken.
+fn is_taken(came: Came) -> bool
+    ensures { TellsTaken result (Kept came) }
+{
+    match came.into_outcome() {
+        KeptOutcome::Taken => true,
+        KeptOutcome::OfMachine(_) | KeptOutcome::Next(_) => false,
     }
 }
 
@@ -51,7 +64,7 @@ fn say_sent<D, C>(
     carried: &Carried,
 ) -> bool
 where
-    D: Desk<Event = KeptEvent, Outcome = Answer<KeptOutcome>>,
+    D: Desk<Event = KeptEvent, Outcome = Answer<Came>>,
     C: Clock,
     requires { D.seats desk.now seat.old }
     ensures seats { D.seats desk.now seat.new }
@@ -61,8 +74,7 @@ where
 {
     let reading = clock.now();
     match desk.ask(seat, reading, KeptEvent::Sent(carried.number())) {
-        Answer::Kept(KeptOutcome::Taken) => true,
-        Answer::Kept(KeptOutcome::OfMachine(_) | KeptOutcome::Next(_)) => false,
+        Answer::Kept(came) => is_taken(came),
         Answer::Lost => {
             losses.raise();
             false
@@ -93,7 +105,7 @@ fn send_item<D, C, L>(
     item: Item,
 ) -> Result<(), OutOfMemory>
 where
-    D: Desk<Event = KeptEvent, Outcome = Answer<KeptOutcome>>,
+    D: Desk<Event = KeptEvent, Outcome = Answer<Came>>,
     C: Clock,
     L: Link + ItemObserver,
     requires { D.seats desk.now seat.old }
@@ -126,7 +138,7 @@ pub fn send_kept<D, C, L>(
     link: &mut L,
 ) -> Result<u64, OutOfMemory>
 where
-    D: Desk<Event = KeptEvent, Outcome = Answer<KeptOutcome>>,
+    D: Desk<Event = KeptEvent, Outcome = Answer<Came>>,
     C: Clock,
     L: Link + ItemObserver,
     requires { D.seats desk.now seat.old }

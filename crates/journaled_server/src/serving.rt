@@ -11,7 +11,7 @@ use change_signal::{ChangeSignal, SignallingDesk, Watch};
 use cse_server::{Bench, OfRequests};
 use desk_replies::Binding;
 use gathering_desk::{Gathering, GatheringDesk};
-use journal_events::{KeptEvent, KeptOutcome};
+use journal_events::{Came, KeptEvent};
 use kept_desk::{KeptDesk, Report, Turn};
 use m2m_io::{Clock, Door, Link};
 use service_observer::ItemObserver;
@@ -60,7 +60,7 @@ impl<R, P> Drop for KeptAttendant<'_, R, P> {
 impl<R, K, X, C, L, A, P> Service<K, X, Bench<C, L>, A> for KeptAttendant<'_, R, P>
 where
     R: Wait,
-    K: Desk<Event = Turn<KeptEvent>, Outcome = Report<KeptOutcome>>,
+    K: Desk<Event = Turn<KeptEvent>, Outcome = Report<Came>>,
     C: Clock,
     L: Link,
     P: Binding<X, A>,
@@ -106,7 +106,7 @@ impl<R> Drop for KeptSender<'_, R> {
 impl<R, K, C, L> Errand<K, Bench<C, L>> for KeptSender<'_, R>
 where
     R: Wait,
-    K: Desk<Event = Turn<KeptEvent>, Outcome = Report<KeptOutcome>>,
+    K: Desk<Event = Turn<KeptEvent>, Outcome = Report<Came>>,
     C: Clock,
     L: Link + ItemObserver,
 {
@@ -147,7 +147,7 @@ pub fn serve_journaled<R, O, D, C, L, A, P>(
 ) -> Result<(DeskSeat<O>, D), (DeskSeat<O>, D, ServeFault)>
 where
     R: Wait + Threads + Sync,
-    O: Object<Event = Turn<KeptEvent>, Outcome = Report<KeptOutcome>> + Send,
+    O: Object<Event = Turn<KeptEvent>, Outcome = Report<Came>> + Send,
     D: Door + Send,
     C: Clock + Send + Drop,
     L: Link + ItemObserver + Send + Drop,

@@ -16,15 +16,15 @@ use Rattle.journaled_later.proofs.answering.take_event.Goals as goal
 pub returns-in_default-clause-taken : goal.returns-in_default-clause-taken
 returns-in_default-clause-taken g c =
     on_each _ _ (λ outcome step.
-    others_taken c.args.reading c.args.moment c.args.event.now c.args.entity.now c.args.requests.now outcome c.record.new.self (sym c.request_of.ensures ∙ ap (option_map (λ r. r.now)) c.in_default.is) step)
-    c.record.result c.record.ensures.step
+    others_taken c.args.reading c.args.moment c.args.event.now c.args.entity.now c.args.requests.now outcome c.record_inside.new.entity (sym c.request_of.ensures ∙ ap (option_map (λ r. r.now)) c.in_default.is) step)
+    c.record_inside.result c.record_inside.ensures.step
 
 pub returns-in_default-clause-records : goal.returns-in_default-clause-records
 returns-in_default-clause-records g c =
     on_both _ _ _ (λ outcome step records.
-    inner_recorded c.args.entity.now c.record.new.self c.args.requests.now c.args.lines.now.items c.record.new.lines.items
-    (kept_home c.args.reading c.args.event.now outcome c.args.entity.now c.record.new.self step) records)
-    c.record.result c.record.ensures.step c.record.ensures.records
+    inner_recorded c.args.entity.now c.record_inside.new.entity c.args.requests.now c.args.lines.now.items c.record_inside.new.lines.items
+    (kept_home c.args.reading c.args.event.now outcome c.args.entity.now c.record_inside.new.entity step) records)
+    c.record_inside.result c.record_inside.ensures.step c.record_inside.ensures.records
 
 -- its content is too deep
 pub returns-then-not-is_shallow-clause-taken : goal.returns-then-not-is_shallow-clause-taken
@@ -44,7 +44,7 @@ pub returns-in_ok-told_then-in-OfMachine-clause-taken : goal.returns-in_ok-told_
 returns-in_ok-told_then-in-OfMachine-clause-taken g c =
     let before = c.args.entity.now in
     let standing = c.args.requests.now in
-    let after = c.record-2.new.self in
+    let after = c.record_inside-2.new.entity in
     let request = c.in-Some.request.now in
     let told = c.in-OfMachine.told in
     let asks = asks_it c.args.event.now request (sym c.request_of.ensures ∙ ap (option_map (λ r. r.now)) c.in-Some.is) in
@@ -60,9 +60,9 @@ pub returns-in_ok-told_then-in-OfMachine-clause-records : goal.returns-in_ok-tol
 returns-in_ok-told_then-in-OfMachine-clause-records g c =
     let before = c.args.entity.now in
     let standing = c.args.requests.now in
-    let after = c.record-2.new.self in
+    let after = c.record_inside-2.new.entity in
     let left = c.write_change.new.requests in
-    let mid = c.record-2.new.lines.items in
+    let mid = c.record_inside-2.new.lines.items in
     let now = c.write_change.new.lines.items in
     let request = c.in-Some.request.now in
     let told = c.in-OfMachine.told in
@@ -81,4 +81,4 @@ returns-in_ok-told_then-in-OfMachine-clause-records g c =
 pub returns-in_default-2 : goal.returns-in_default-2
 returns-in_default-2 g c =
     let asks = asks_it c.args.event.now c.in-Some.request.now (sym c.request_of.ensures ∙ ap (option_map (λ r. r.now)) c.in-Some.is) in
-    asked_of_machine c.args.reading c.args.event.now c.in-Some.request.now c.args.entity.now c.record-2.new.self c.in_ok-other.other asks c.in_ok-other.ensures.step c.in_default-2.not-OfMachine
+    asked_of_machine c.args.reading c.args.event.now c.in-Some.request.now c.args.entity.now c.record_inside-2.new.entity c.in_ok-other.other asks c.in_ok-other.ensures.step c.in_default-2.not-OfMachine

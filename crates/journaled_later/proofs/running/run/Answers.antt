@@ -17,7 +17,7 @@ finish-requires g c = ap does_wait c.begin.ensures.begun
 pub returns-clause-run : goal.returns-clause-run
 returns-clause-run g c =
     let old = c.args.entry.now in
-    let left = c.record.new.self in
+    let left = c.record_inside.new.entity in
     let P = λ (r : RequestParts). KeptEntityStep c.args.reading (events.OfMachine (Ask r)) c.args.entity.now c.in_ok-outcome.outcome left in
     let one = of_step c.args.reading (Ask old.request) c.args.entity.now c.in_ok-outcome.outcome left (subst P c.begin.ensures.request c.in_ok-outcome.ensures.step) in
     on_each _ _ (λ u put. record {
@@ -34,9 +34,9 @@ pub returns-clause-records : goal.returns-clause-records
 returns-clause-records g c =
     let old = c.args.entry.now in
     let before = c.args.entity.now in
-    let left = c.record.new.self in
+    let left = c.record_inside.new.entity in
     let lines = c.args.lines.now.items in
-    let mid = c.record.new.lines.items in
+    let mid = c.record_inside.new.lines.items in
     let now = c.push_result.new.lines.items in
     let P = λ (r : RequestParts). KeptEntityStep c.args.reading (events.OfMachine (Ask r)) before c.in_ok-outcome.outcome left in
     let one = of_step c.args.reading (Ask old.request) before c.in_ok-outcome.outcome left (subst P c.begin.ensures.request c.in_ok-outcome.ensures.step) in

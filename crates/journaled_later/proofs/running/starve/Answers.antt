@@ -16,7 +16,7 @@ finish-requires g c = ap does_wait c.begin-request.ensures.begun
 pub returns-clause-run : goal.returns-clause-run
 returns-clause-run g c =
     let old = c.args.entry.now in
-    let left = c.record.new.self in
+    let left = c.record_inside.new.entity in
     let one = of_step c.args.reading Tick c.args.entity.now c.in_ok-came.came left c.in_ok-came.ensures.step in
     on_each _ _ (λ u put. record {
       outcome = Starved 0;
@@ -41,9 +41,9 @@ pub returns-clause-records : goal.returns-clause-records
 returns-clause-records g c =
     let old = c.args.entry.now in
     let before = c.args.entity.now in
-    let left = c.record.new.self in
+    let left = c.record_inside.new.entity in
     let lines = c.args.lines.now.items in
-    let mid = c.record.new.lines.items in
+    let mid = c.record_inside.new.lines.items in
     let now = c.push_result.new.lines.items in
     let one = of_step c.args.reading Tick before c.in_ok-came.came left c.in_ok-came.ensures.step in
     let step = starved_by_tick c.args.reading old.request before left one.came one.step in

@@ -7,7 +7,7 @@ use Rattle.journaled_server.proofs.plain.PlainDeskDesk.ask.Goals as goal
 
 pub returns-in-Kept-clause-asked : goal.returns-in-Kept-clause-asked
 returns-in-Kept-clause-asked g c =
-    plain_asked g.D.Desk.grown c.args.seat.now c.ask.new.seat c.args.reading c.args.event (Kept c.in-Kept.came) c.outcome_of.result c.outcome_of.ensures c.in-Kept.ensures.asked
+    plain_asked g.D.Desk.grown c.args.seat.now c.ask.new.seat c.args.reading c.args.event (Kept c.in-Kept.came) c.into_machine_outcome.result c.into_machine_outcome.ensures c.in-Kept.ensures.asked
 
 pub returns-in-Lost-clause-asked : goal.returns-in-Lost-clause-asked
 returns-in-Lost-clause-asked g c =
