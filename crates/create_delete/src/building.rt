@@ -121,7 +121,8 @@ fn link(attr: Attr, ids: Vec<Val>, attrs: &mut Attrs) -> Result<(), OutOfMemory>
     if ids.is_empty() {
         return Ok(());
     }
-    attrs.set(attr, Val::of_list(Items::of(ids)))
+    let alloc = *ids.allocator();
+    attrs.set(attr, Val::of_list(Items::shared(alloc, ids)))
 }
 
 /// Puts in the policies that a content names, which are live.

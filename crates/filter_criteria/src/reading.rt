@@ -170,12 +170,12 @@ pub fn plain_filter(alloc: Global, filter: &Val) -> Result<Filter, OutOfMemory>
     Filter::of(alloc, parts)
 }
 
-/// The same alternatives, moved out of the value.
+/// The same alternatives, moved out of the value, or copied where a copy of the value has them too.
 fn alternatives_from(alloc: Global, value: Val) -> Result<Vec<Val>, OutOfMemory>
     ensures { IfOk result (λ parts. parts.items ≡ spec.alternatives value) }
 {
     match value.into_node() {
-        Node::List(items) => Ok(items.into_vec()),
+        Node::List(items) => items.into_vec(alloc),
         node => {
             let mut parts = Vec::with_capacity(alloc, 1)?;
             parts.push(Val::of(node))?;

@@ -1,5 +1,6 @@
 pub mod Begins
 pub mod Levels
+pub mod Nested
 pub mod Answering
 pub mod Lookup
 pub mod Raised

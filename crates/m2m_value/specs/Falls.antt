@@ -1,14 +1,17 @@
 -- Each part of a value nests less deep than the value.
 use Rattle.std.specs.Prelude.{◌+◌, ◌*◌, ◌≤◌, max, List, [], ◌∷◌}
+use Rattle.std.specs.Arc.{arc_value}
 use Rattle.std.proofs.Common.{arith}
 use denote.Param.Weighed.{most}
 use Rattle.m2m_value.specs.Data.{Data, Entry, depth, elements_of, elements_depth, pairs_of}
 use Rattle.m2m_value.specs.Data.{pairs_depth}
-use Rattle.m2m_value.specs.Node.{data_of}
+use Rattle.m2m_value.specs.Node.{data_of, values_of}
+use Rattle.m2m_value.specs.declared.value.Hold.{Hold}
+use Rattle.m2m_value.specs.declared.value.Hold.TheVariants.{Alone, Shared}
 use Rattle.m2m_value.specs.declared.value.Node.{Node}
 use Rattle.m2m_value.specs.declared.value.Node.TheVariants.{Null, Bool, Num, Text, List as ListNode}
 use Rattle.m2m_value.specs.declared.value.Node.TheVariants.{Obj}
-use Rattle.m2m_value.specs.declared.value.Items.TheDeep.{deep-Node, deep-Members}
+use Rattle.m2m_value.specs.declared.value.Items.TheDeep.{deep-Node, deep-Members, deep-Hold}
 use Rattle.m2m_value.specs.declared.value.Items.TheShapes.{weighed-Members-entries-at-2}
 use Rattle.m2m_value.specs.declared.value.Members.TheInside.{Inside}
 
@@ -18,6 +21,11 @@ pub elements_fall : (ds : List Data) →
     most (λ d. 2 * depth d + 1) ds ≤ 2 * elements_depth (elements_of ds) + 1
 elements_fall [] = omega arith
 elements_fall (d ∷ ds) = omega (arith, elements_fall ds)
+
+-- The same of a list, whoever has its values.
+pub values_fall : (h : Hold) → max (deep-Hold h) 0 ≤ 2 * elements_depth (elements_of (values_of h)) + 1
+values_fall (Alone values) = omega (arith, elements_fall values.items)
+values_fall (Shared values) = omega (arith, elements_fall (arc_value values).items)
 
 members_fall_in : (es : List Entry) →
     max (most {X = Entry}

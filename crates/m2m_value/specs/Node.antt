@@ -1,5 +1,6 @@
 -- A value opened at its top, and what each value keeps.
 use Rattle.std.specs.Prelude.{List, IsUtf8}
+use Rattle.std.specs.Arc.{arc_value}
 use Rattle.std.specs.Cmp.Lexicographic.{slice_cmp}
 use Rattle.std.specs.List.{AllByRecursion}
 use Rattle.std.specs.List.Sorted.{IsStrictlySortedBy}
@@ -7,9 +8,16 @@ use Rattle.std.specs.Map.{keys_of}
 use Rattle.std.specs.Ordering.{nat_cmp}
 use Rattle.m2m_value.specs.Data.{Data, null, boolean, number, text, list, object, Entry}
 use Rattle.m2m_value.specs.Data.{elements_of, pairs_of}
+use Rattle.m2m_value.specs.declared.value.Hold.{Hold}
+use Rattle.m2m_value.specs.declared.value.Hold.TheVariants.{Alone, Shared}
 use Rattle.m2m_value.specs.declared.value.Node.{Node}
 use Rattle.m2m_value.specs.declared.value.Node.TheVariants.{Null, Bool, Num, Text, List as ListNode}
 use Rattle.m2m_value.specs.declared.value.Node.TheVariants.{Obj}
+
+-- the values of a list, whoever has them
+abbrev pub values_of : Hold → List Data
+values_of (Alone values) = values.items
+values_of (Shared values) = (arc_value values).items
 
 -- the data of a value, from its top
 abbrev pub data_of : Node → Data

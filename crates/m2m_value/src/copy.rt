@@ -7,7 +7,7 @@ use crate::value::{Items, Members, Node, Val};
 use std::alloc::{AllocError as OutOfMemory, Global};
 
 impl Val {
-    /// An equal value.
+    /// An equal value. It shares the lists that are shared, and what else is long in it is copied.
     pub fn copy(&self, alloc: Global) -> Result<Val, OutOfMemory>
         ensures { IfOk result (λ v. v ≡ self.now) }
     {
@@ -24,20 +24,26 @@ fn copied(alloc: Global, value: &Val) -> Result<Val, OutOfMemory>
         Node::Bool(b) => Ok(Val::of(Node::Bool(*b))),
         Node::Num(n) => Ok(Val::of(Node::Num(*n))),
         Node::Text(text) => Ok(Val::of(Node::Text(text.copy(alloc)?))),
-        Node::List(items) => Ok(Val::of(Node::List(copied_items(alloc, items)?))),
+        Node::List(items) => match items.again() {
+            Some(again) => Ok(Val::of(Node::List(again))),
+            None => Ok(Val::of(Node::List(Items::shared(
+                alloc,
+                copied_values(alloc, items.entries())?,
+            )))),
+        },
         Node::Obj(members) => Ok(Val::of(Node::Obj(copied_members(alloc, members)?))),
     }
 }
 
 #[cycle(copy)]
-fn copied_items(alloc: Global, items: &Items) -> Result<Items, OutOfMemory>
-    ensures { IfOk result (λ i. i ≡ items.now) }
+pub(crate) fn copied_values(alloc: Global, values: &[Val]) -> Result<Vec<Val>, OutOfMemory>
+    ensures { IfOk result (λ vs. vs.items ≡ values.now) }
 {
-    let mut values = Vec::with_capacity(alloc, items.values.len())?;
-    for value in &items.values {
-        values.push(copied(alloc, value)?)?;
+    let mut copies = Vec::with_capacity(alloc, values.len())?;
+    for value in values {
+        copies.push(copied(alloc, value)?)?;
     }
-    Ok(Items::of(values))
+    Ok(copies)
 }
 
 #[cycle(copy)]

@@ -14,10 +14,14 @@
 //! moved, and each list and object is allocated once, at its length. It clears 16 KiB of room of
 //! its own first. `read_in` has the caller's `Scratch`, which is kept from read to read and grows
 //! to the longest text. It makes the value of what `json` reads, with no value of `serde_json`
-//! between, and the keys that most requests have take no memory. A write is one pass over the
-//! value, and its bytes go straight to the end of `out`: no allocation where there is room for
-//! them, and otherwise those by which a vector grows, some fifteen from nothing to 64 KiB. A size
-//! is one pass over the value, without memory.
+//! between, and the keys that most requests have take no memory. A list of at least
+//! `Items::SHARED_FROM` values takes one allocation more, in which its owners are counted. A copy
+//! of the list is one more owner then: it takes no memory, and no time for what the list has. A
+//! copy of anything else is one pass over it, with an allocation for each list, each object and
+//! each text of more than `Text::ROOM` bytes. A write is one pass over the value, and its bytes go
+//! straight to the end of `out`: no allocation where there is room for them, and otherwise those by
+//! which a vector grows, some fifteen from nothing to 64 KiB. A size is one pass over the value,
+//! without memory.
 //!
 //! ```text
 //! let mut out = Vec::new(alloc);

@@ -101,7 +101,7 @@ fn items_taken(alloc: Global, items: Vec<json::Value<'_>>) -> Option<Items>
     for item in items {
         values.push(taken(alloc, item)?).ok()?;
     }
-    Some(Items::of(values))
+    Some(Items::shared(alloc, values))
 }
 
 /// The members go in one after another, so that of those with one key the last stays.

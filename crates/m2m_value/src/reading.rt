@@ -60,7 +60,7 @@ fn kept_items(alloc: Global, items: Vec<Value>) -> Result<Items, ValFault>
     for item in items {
         values.push(kept(alloc, item)?)?;
     }
-    Ok(Items::of(values))
+    Ok(Items::shared(alloc, values))
 }
 
 #[cycle(kept)]

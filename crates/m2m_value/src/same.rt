@@ -67,7 +67,7 @@ fn are_same(one: &Val, other: &Val) -> bool
         (Node::Bool(a), Node::Bool(b)) => a == b,
         (Node::Num(a), Node::Num(b)) => a == b,
         (Node::Text(a), Node::Text(b)) => a == b,
-        (Node::List(a), Node::List(b)) => are_same_items(&a.values, &b.values),
+        (Node::List(a), Node::List(b)) => are_same_items(a.entries(), b.entries()),
         (Node::Obj(a), Node::Obj(b)) => are_same_members(&a.entries, &b.entries),
         _ => false,
     }

@@ -42,7 +42,7 @@ fn items_len(items: &Items) -> u64
     ensures { result ≡ capped (2 + length (elements_from (elements_of items.now) 0)) }
 {
     let mut len = 2u64;
-    for (place, value) in items.values.iter().enumerate() {
+    for (place, value) in items.entries().iter().enumerate() {
         len = len
             .saturating_add(comma_len(place))
             .saturating_add(text_len(value));

@@ -1,14 +1,17 @@
 //! JSON values, and how they are made and taken apart.
-ghost use Rattle.std.specs.Prelude.{◌≡◌};
+ghost use Rattle.std.specs.Prelude.{◌≡◌, IfOk};
+ghost use Rattle.std.specs.Arc.{arc_value};
 ghost use Rattle.std.specs.Cmp.Lexicographic.{slice_cmp};
 ghost use Rattle.std.specs.Ordering.{nat_cmp};
 
+use crate::copy::copied_values;
 use crate::key::MemberKey;
 use crate::text::Text;
 use std::alloc::{AllocError as OutOfMemory, Global};
 use std::cmp::Ordering;
 use std::marker::Model;
 use std::mem;
+use std::sync::Arc;
 
 /// A JSON value (RFC 8259) whose numbers are whole and have 64 bits with their sign. Its texts and
 /// keys are UTF-8. Clauses see it as `Data`.
@@ -30,11 +33,20 @@ pub enum Node {
     Obj(Members),
 }
 
-/// A list of values. Clauses see it as the list of their `Data`.
+/// A list of values. Clauses see it as the list of their `Data`. A long one that was read or copied
+/// is shared with its copies.
 #[cycle(value)]
 #[derive(Debug, Drop)]
 pub struct Items {
-    pub(crate) values: Vec<Val>,
+    hold: Hold,
+}
+
+// Who has its values: this list alone, or also its copies.
+#[cycle(value)]
+#[derive(Debug, Drop)]
+enum Hold {
+    Alone(Vec<Val>),
+    Shared(Arc<Vec<Val>>),
 }
 
 /// The members of an object, whose keys are distinct and in the order of their bytes. Clauses see
@@ -77,14 +89,15 @@ impl Model for Items {
 
     ghost coded = { coded_list data_code };
 
-    ghost view = { λ a. a.values.items };
+    ghost use Rattle.m2m_value.specs.Node.{values_of};
+
+    ghost view = { λ a. values_of a.hold };
 
     ghost size = { λ ds. 2 * elements_depth (elements_of ds) + 1 };
 
-    ghost use Rattle.std.proofs.Common.{arith};
-    ghost use Rattle.m2m_value.specs.Falls.{elements_fall};
+    ghost use Rattle.m2m_value.specs.Falls.{values_fall};
 
-    ghost size_decreases = { λ a h. omega (arith, elements_fall a.values.items) };
+    ghost size_decreases = { λ a h. values_fall a.hold };
 }
 
 impl Model for Members {
@@ -251,25 +264,77 @@ impl Val {
 }
 
 impl Items {
-    /// Takes no memory.
+    ghost use Rattle.std.specs.Prelude.{◌≡◌, IfOk, IfSome};
+
+    /// A list of at least so many values that is read or copied is shared with its copies.
+    pub const SHARED_FROM: usize = 64;
+
+    /// Takes no memory. Its first copy is made value by value.
     pub fn of(values: Vec<Val>) -> Items
         ensures { result ≡ values.items }
     {
-        Items { values }
+        Items {
+            hold: Hold::Alone(values),
+        }
     }
 
-    /// The values, in order.
-    pub fn into_vec(self) -> Vec<Val>
-        ensures { result.items ≡ self }
+    /// The same, whose copies take no memory where the values are many. It takes memory once then,
+    /// to count who has them; where there is none, the list is not shared.
+    pub fn shared(alloc: Global, values: Vec<Val>) -> Items
+        ensures { result ≡ values.items }
     {
-        self.values
+        if values.len() < Items::SHARED_FROM {
+            return Items::of(values);
+        }
+        match Arc::new(alloc, values) {
+            Ok(values) => Items {
+                hold: Hold::Shared(values),
+            },
+            Err(failed) => Items::of(failed.value),
+        }
+    }
+
+    /// The list once more, without memory, where it is shared and has not too many copies.
+    pub(crate) fn again(&self) -> Option<Items>
+        ensures { IfSome result (λ i. i ≡ self.now) }
+    {
+        match &self.hold {
+            Hold::Alone(_) => None,
+            Hold::Shared(values) => Some(Items {
+                hold: Hold::Shared(Arc::try_clone(values).ok()?),
+            }),
+        }
+    }
+
+    /// The values, in order; copies of them where a copy of the list still has them.
+    pub fn into_vec(self, alloc: Global) -> Result<Vec<Val>, OutOfMemory>
+        ensures { IfOk result (λ vs. vs.items ≡ self) }
+    {
+        let Items { hold } = self;
+        match hold {
+            Hold::Alone(values) => Ok(values),
+            Hold::Shared(values) => unshared(alloc, values),
+        }
     }
 
     /// The values, in order.
     pub fn entries(&self) -> &[Val]
         ensures { result.now ≡ self.now }
     {
-        &self.values
+        match &self.hold {
+            Hold::Alone(values) => values,
+            Hold::Shared(values) => values,
+        }
+    }
+}
+
+// The values themselves where nobody else has them, and copies of them otherwise.
+fn unshared(alloc: Global, values: Arc<Vec<Val>>) -> Result<Vec<Val>, OutOfMemory>
+    ensures { IfOk result (λ vs. vs.items ≡ (arc_value values).items) }
+{
+    match Arc::try_unwrap(values) {
+        Ok(values) => Ok(values),
+        Err(values) => copied_values(alloc, &values),
     }
 }
 

@@ -59,7 +59,7 @@ fn write_items(items: &Items, out: &mut Vec<u8>) -> Result<(), OutOfMemory>
     ensures sound { OnOk result (AreSound (elements_of items.now)) }
 {
     out.push(b'[')?;
-    for (place, value) in items.values.iter().enumerate() {
+    for (place, value) in items.entries().iter().enumerate() {
         write_comma(place, out)?;
         match value.as_num() {
             Some(n) => write_number(n, out)?,

@@ -195,7 +195,7 @@ where
             return Err(OutOfMemory);
         };
         let ReplyParts { rsc, rqi, pc } = reply.into_parts();
-        let Some(entries) = taken_entries(pc) else {
+        let Some(entries) = taken_entries(self.alloc, pc)? else {
             unreachable!()
         };
         let told = self.tell_members(seat, clock, link, &request, entries)?;

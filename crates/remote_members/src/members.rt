@@ -96,12 +96,12 @@ fn taken_members(value: Val) -> Option<Members>
 }
 
 // The elements of a list. Any other value goes.
-fn taken_elements(value: Val) -> Option<Vec<Val>>
-    ensures { option_map (λ v. v.items) result ≡ as_list value }
+fn taken_elements(alloc: Global, value: Val) -> Result<Option<Vec<Val>>, OutOfMemory>
+    ensures { IfOk result (λ o. option_map (λ v. v.items) o ≡ as_list value) }
 {
     match value.into_node() {
-        Node::List(items) => Some(items.into_vec()),
-        _ => None,
+        Node::List(items) => Ok(Some(items.into_vec(alloc)?)),
+        _ => Ok(None),
     }
 }
 
@@ -143,33 +143,36 @@ fn taken_alone(value: Val, name: &str) -> Option<Val>
 }
 
 // The values that the replies of an aggregated response are. All else of it goes.
-fn taken_replies(aggregated: Val) -> Option<Vec<Val>>
-    ensures { option_map (λ v. v.items) result ≡ spec.replies_in aggregated }
+fn taken_replies(alloc: Global, aggregated: Val) -> Result<Option<Vec<Val>>, OutOfMemory>
+    ensures { IfOk result (λ o. option_map (λ v. v.items) o ≡ spec.replies_in aggregated) }
 {
     match taken_alone(aggregated, REPLIES) {
-        Some(replies) => taken_elements(replies),
-        None => None,
+        Some(replies) => taken_elements(alloc, replies),
+        None => Ok(None),
     }
 }
 
 // What a content tells of members, where it is an aggregated response. All else of it goes.
-fn taken_told(content: Val) -> Option<Vec<Val>>
-    ensures { option_map (λ v. v.items) result ≡ spec.told_in content }
+fn taken_told(alloc: Global, content: Val) -> Result<Option<Vec<Val>>, OutOfMemory>
+    ensures { IfOk result (λ o. option_map (λ v. v.items) o ≡ spec.told_in content) }
 {
     match taken_alone(content, AGGREGATED) {
-        Some(aggregated) => taken_replies(aggregated),
-        None => None,
+        Some(aggregated) => taken_replies(alloc, aggregated),
+        None => Ok(None),
     }
 }
 
 /// What the content of a reply tells of members, where it is an aggregated response. All else of it
 /// goes.
-pub(crate) fn taken_entries(content: Option<Val>) -> Option<Vec<Val>>
-    ensures { option_map (λ v. v.items) result ≡ spec.told_of_members content }
+pub(crate) fn taken_entries(
+    alloc: Global,
+    content: Option<Val>,
+) -> Result<Option<Vec<Val>>, OutOfMemory>
+    ensures { IfOk result (λ o. option_map (λ v. v.items) o ≡ spec.told_of_members content) }
 {
     match content {
-        Some(content) => taken_told(content),
-        None => None,
+        Some(content) => taken_told(alloc, content),
+        None => Ok(None),
     }
 }
 

@@ -355,7 +355,8 @@ fn push_members(
               then spec.any_type else members.entry.of_type)),
         ) ∷ []) }
 {
-    rows.push((Attr::Mid, Val::of_list(Items::of(kept))))?;
+    let alloc = *kept.allocator();
+    rows.push((Attr::Mid, Val::of_list(Items::shared(alloc, kept))))?;
     rows.push((Attr::Mt, number_of(type_kept(members, has_other))))?;
     Ok(())
 }

@@ -1,5 +1,5 @@
 //! The descendants that a Retrieve shows.
-ghost use Rattle.std.specs.Prelude.{◌≡◌, ◌-◌, ◌<◌, OnOk, IsTrue, Some};
+ghost use Rattle.std.specs.Prelude.{◌≡◌, ◌-◌, ◌<◌, IfOk, OnOk, IsTrue, Some};
 ghost use Rattle.m2m_names.specs.Name.{is_originator};
 ghost use Rattle.m2m_names.specs.Types.{ty_member};
 ghost use Rattle.m2m_value.specs.Node.{HaveTextKeys};
@@ -106,26 +106,26 @@ fn add_last(alloc: Global, members: &mut Members, ty: Ty, object: Val) -> Result
     ensures keys { OnOk result (HaveTextKeys members.old → HaveTextKeys members.new) }
 {
     let key = MemberKey::named(ty.member());
-    let mut objects = taken_elements(alloc, members.take(key.entries()));
+    let mut objects = taken_elements(alloc, members.take(key.entries()))?;
     objects.push(object)?;
     members.put(key, Val::of_list(Items::of(objects)))
 }
 
 // The elements of a list; of what is no list none.
-fn taken_elements(alloc: Global, value: Option<Val>) -> Vec<Val>
-    ensures { result.items ≡ listed_in value }
+fn taken_elements(alloc: Global, value: Option<Val>) -> Result<Vec<Val>, OutOfMemory>
+    ensures { IfOk result (λ vs. vs.items ≡ listed_in value) }
 {
     match value {
         Some(value) => into_elements(alloc, value),
-        None => Vec::new(alloc),
+        None => Ok(Vec::new(alloc)),
     }
 }
 
-fn into_elements(alloc: Global, value: Val) -> Vec<Val>
-    ensures { result.items ≡ listed_in (Some value) }
+fn into_elements(alloc: Global, value: Val) -> Result<Vec<Val>, OutOfMemory>
+    ensures { IfOk result (λ vs. vs.items ≡ listed_in (Some value)) }
 {
     match value.into_node() {
-        Node::List(items) => items.into_vec(),
-        _ => Vec::new(alloc),
+        Node::List(items) => items.into_vec(alloc),
+        _ => Ok(Vec::new(alloc)),
     }
 }

@@ -5,4 +5,4 @@ use Rattle.remote_members.proofs.members.taken_elements.Goals as goal
 
 pub returns-in-List : goal.returns-in-List
 returns-in-List c =
-    ap Some (c.into_vec.ensures ∙ sym (elements-elements_of c.in-List.items)) ∙ ap as_list c.in-List.ensures.top
+    ap Some (c.in_ok-into_vec-in-List.ensures ∙ sym (elements-elements_of c.in-List.items)) ∙ ap as_list c.in-List.ensures.top

@@ -9,7 +9,7 @@ pub returns-clause-value : goal.returns-clause-value
 returns-clause-value c =
     let named : c.named-key.result ≡ ty_member c.args.ty = c.named-key.ensures ∙ c.member.ensures in
     on_ok_weaker c.put.result (listed_last c.take.result c.named-key.result c.entries.result.now (ty_member c.args.ty) c.args.object c.of_list.result c.push.new.self.items c.args.members.now c.take.new.self c.put.new.self
-    named c.entries.ensures c.take.ensures.value (c.in_ok-push.ensures.items ∙ ap (λ ds. ds ++ c.args.object ∷ []) c.taken_elements-objects.ensures) (c.of_list.ensures ∙ ap (λ ds. list (elements_of ds)) c.of.ensures) c.take.ensures.taken c.take.ensures.absent) c.put.ensures.ok
+    named c.entries.ensures c.take.ensures.value (c.in_ok-push.ensures.items ∙ ap (λ ds. ds ++ c.args.object ∷ []) c.in_ok-objects.ensures) (c.of_list.ensures ∙ ap (λ ds. list (elements_of ds)) c.of.ensures) c.take.ensures.taken c.take.ensures.absent) c.put.ensures.ok
 
 pub returns-clause-keys : goal.returns-clause-keys
 returns-clause-keys c =

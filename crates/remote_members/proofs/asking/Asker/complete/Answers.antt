@@ -26,6 +26,12 @@ pub returns-in_default-clause-asks : goal.returns-in_default-clause-asks
 returns-in_default-clause-asks g c = λ request kept.
     none_asked g.D.Desk.grown g.met.D.Desk.grown_by_nothing c.args.seat.now _ _ _ _ _ tt
 
+-- memory ran out for what it tells of members
+pub returns-in_err-entries-clause-asks : goal.returns-in_err-entries-clause-asks
+returns-in_err-entries-clause-asks g c = λ request kept.
+    let failed = err_from_is_err_and c.from_residual-in_err-entries.result c.from_residual-in_err-entries.ensures.1 in
+    rw failed.1 (none_asked g.D.Desk.grown g.met.D.Desk.grown_by_nothing c.args.seat.now _ _ _ _ _ tt)
+
 -- one that tells of members away tells of members
 pub unreachable-requires : goal.unreachable-requires
 unreachable-requires g c =
@@ -33,25 +39,25 @@ unreachable-requires g c =
     let parts = c.into_parts-rsc.result in
     let same = c.into_parts-rsc.ensures.same in
     let some = sym c.in_ok-tells_of_away.ensures ∙ c.if-not-branch.false in
-    let none = rw (not_some c.taken_entries.result c.in_default-taken_entries.not-Some) at c.taken_entries.ensures in
+    let none = rw (not_some c.in_ok-entries.field-0 c.in_default-2.not-Some) at c.in_ok-entries.ensures in
     some_told home c.args.reply some (ap (λ (r : ReplyParts). told_of_members r.pc) (sym same) ∙ sym none)
 
 -- memory ran out at a member
 pub returns-in_err-told-clause-asks : goal.returns-in_err-told-clause-asks
 returns-in_err-told-clause-asks g c = λ request kept.
     let failed = err_from_is_err_and c.from_residual-in_err-told.result c.from_residual-in_err-told.ensures.1 in
-    let tells = rw c.in-Some-taken_entries.is at c.taken_entries.ensures in
+    let tells = rw c.in-Some-2.is at c.in_ok-entries.ensures in
     rw failed.1 (members_complete g.D.Desk.grown (λ told. told.items) c.args.seat.now c.tell_members.new.seat _ _ _ _ c.args.self.now.home.now c.in-Some.request request
-    c.into_parts-rsc.result c.args.reply c.in-Some-taken_entries.entries.items c.tell_members.result _ (kept_is c.args.kept c.in-Some.request request c.in-Some.is kept)
+    c.into_parts-rsc.result c.args.reply c.in-Some-2.entries.items c.tell_members.result _ (kept_is c.args.kept c.in-Some.request request c.in-Some.is kept)
     c.into_parts-rsc.ensures.same (sym tells) c.tell_members.ensures.asks tt)
 
 -- it ran out for the content
 pub returns-in_err-content-clause-asks : goal.returns-in_err-content-clause-asks
 returns-in_err-content-clause-asks g c = λ request kept.
     let failed = err_from_is_err_and c.from_residual-in_err-content.result c.from_residual-in_err-content.ensures.1 in
-    let tells = rw c.in-Some-taken_entries.is at c.taken_entries.ensures in
+    let tells = rw c.in-Some-2.is at c.in_ok-entries.ensures in
     rw failed.1 (members_complete g.D.Desk.grown (λ told. told.items) c.args.seat.now c.tell_members.new.seat _ _ _ _ c.args.self.now.home.now c.in-Some.request request
-    c.into_parts-rsc.result c.args.reply c.in-Some-taken_entries.entries.items c.tell_members.result _ (kept_is c.args.kept c.in-Some.request request c.in-Some.is kept)
+    c.into_parts-rsc.result c.args.reply c.in-Some-2.entries.items c.tell_members.result _ (kept_is c.args.kept c.in-Some.request request c.in-Some.is kept)
     c.into_parts-rsc.ensures.same (sym tells) c.tell_members.ensures.asks tt)
 
 -- it is completed
@@ -59,12 +65,12 @@ pub returns-clause-asks : goal.returns-clause-asks
 returns-clause-asks g c = λ request kept.
     let home = c.args.self.now.home.now in
     let parts = c.into_parts-rsc.result in
-    let tells = rw c.in-Some-taken_entries.is at c.taken_entries.ensures in
+    let tells = rw c.in-Some-2.is at c.in_ok-entries.ensures in
     let asks = c.in_ok-told.ensures.asks in
     members_complete g.D.Desk.grown (λ told. told.items) c.args.seat.now c.tell_members.new.seat _ _ _ _ home c.in-Some.request request
-    parts c.args.reply c.in-Some-taken_entries.entries.items _ _ (kept_is c.args.kept c.in-Some.request request c.in-Some.is kept)
+    parts c.args.reply c.in-Some-2.entries.items _ _ (kept_is c.args.kept c.in-Some.request request c.in-Some.is kept)
     c.into_parts-rsc.ensures.same (sym tells) asks (
       asks.given_all.0,
-      c.of.ensures ∙ completes home parts c.in-Some-taken_entries.entries.items c.in_ok-told.told.items c.in_ok-content.content asks.asked.replies
+      c.of.ensures ∙ completes home parts c.in-Some-2.entries.items c.in_ok-told.told.items c.in_ok-content.content asks.asked.replies
           (sym tells) asks.given_all.1 c.in_ok-content.ensures,
     )
