@@ -5,7 +5,7 @@ use denote.Param.Send.{IsSend, sendable}
 use denote.Param.SendFields.{as_row_send, declared_send}
 use denote.Struct.Field.{Field, u64-field}
 use Rattle.std.proofs.Common.{List, [], ◌∷◌}
-use Rattle.std.proofs.Crossing.{crosses}
+use Rattle.std.proofs.Crossing.{crosses, Vec-send}
 use Rattle.std.proofs.MapsCrossing as maps
 use Rattle.std.specs.contracts.hash.FoldHasher as fold
 use Rattle.desk_replies.proofs.ValuesSent.{text_send, val_send}
@@ -71,7 +71,9 @@ table_send = as_row_send (first_part store_inside.the_type.parts)
     (maps.HashMap-send u64 resource.the_row seeded.the_row fold.the_row _ _ _ _ u64_send resource_send hasher_send)
 
 gone_send : IsSend gone.the_row
-gone_send = search (sendable, crosses, resource_send) depth 40 fits 5000
+gone_send =
+    let kept = Vec-send resource.the_row resource_send in
+    declared_send gone.the_type (search (sendable, crosses) depth 20, (search (sendable, crosses, kept) depth 40, (Vec-send _ kept, tt)))
 
 store_inside_send : IsSend store_inside.the_row
 store_inside_send = declared_send store_inside.the_type (table_send, (search (sendable, crosses) depth 20, (search (sendable, crosses) depth 20, (gone_send, tt))))

@@ -61,12 +61,28 @@ impl Named {
         add_id(alloc, &mut self.cses, resource.cse_id(), resource.number())
     }
 
-    /// A resource has gone, and this list has those that are left.
-    pub fn note_gone(&mut self, list: &Store, number: u64, parent: u64)
+    /// A resource has gone, and this list has those that are left. An instance had no children and
+    /// no id, so that only its own name is looked for.
+    pub fn note_gone(&mut self, list: &Store, number: u64, parent: u64, is_instance: bool)
+        ensures { IsNamed list.now self.old → IsNamed list.now self.new }
+    {
+        self.note_child_gone(list, parent);
+        if !is_instance {
+            self.note_others_gone(list, number);
+        }
+    }
+
+    fn note_child_gone(&mut self, list: &Store, parent: u64)
+        ensures { IsNamed list.now self.old → IsNamed list.now self.new }
+    {
+        note_gone_child(&mut self.children, list, parent);
+    }
+
+    // The same of the names of its children, and of its ids.
+    fn note_others_gone(&mut self, list: &Store, number: u64)
         ensures { IsNamed list.now self.old → IsNamed list.now self.new }
     {
         let_go_children(&mut self.children, list, number);
-        note_gone_child(&mut self.children, list, parent);
         self.aes.note_gone(list, FEW);
         self.cses.note_gone(list, FEW);
     }

@@ -1,6 +1,8 @@
 //! The numbers of resources in order, among some whose resources have gone.
 ghost use Rattle.std.specs.Prelude.{◌≡◌, ◌≤◌, ◌<◌, [], ◌∷◌, ◌++◌, drop, take, filter, nat_lt};
 ghost use Rattle.std.specs.Prelude.{length, option_map, slice_get, IsTrue, vec_len, vec_capacity};
+ghost use Rattle.std.specs.Prelude.{nat_eq, None};
+ghost use Rattle.std.specs.HashMap.{get};
 ghost use Rattle.tree_model.specs.Tree.{DoAscend};
 ghost use Rattle.resource_store.specs.Store.{resources_of, KeepsPresent};
 
@@ -60,29 +62,54 @@ pub(crate) fn put_last(order: &mut Vec<u64>, number: u64)
     order.push_reserved(number);
 }
 
-/// Lets numbers go whose resources have gone, where these come last, or are more than half.
-pub(crate) fn let_gaps_go(resources: &NumberMap<Resource>, order: &mut Vec<u64>, count: u64)
+/// Lets numbers go whose resources have gone, where these come last, or are more than half. The
+/// resource of this number went just now, and so many are left.
+pub(crate) fn let_gaps_go(
+    resources: &NumberMap<Resource>,
+    order: &mut Vec<u64>,
+    count: u64,
+    gone: u64,
+)
+    requires { get nat_eq resources.now gone ≡ None }
     ensures { KeepsPresent resources.now order.old.items order.new.items }
 {
-    while lets_last_go(resources, order) {}
+    while lets_last_go(resources, order, count, gone) {}
     if order.len() as u64 > count.saturating_mul(2).saturating_add(FEW) {
         let_all_go(resources, order);
     }
 }
 
-// Lets the last number go, where its resource has gone, and says so.
-fn lets_last_go(resources: &NumberMap<Resource>, order: &mut Vec<u64>) -> bool
+// Lets the last number go, where its resource has gone, and says so. Where there are no more numbers
+// than resources, none has.
+fn lets_last_go(
+    resources: &NumberMap<Resource>,
+    order: &mut Vec<u64>,
+    count: u64,
+    gone: u64,
+) -> bool
+    requires { get nat_eq resources.now gone ≡ None }
     ensures kept { KeepsPresent resources.now order.old.items order.new.items }
     ensures less { IsTrue result → length order.new.items < length order.old.items }
 {
+    if order.len() as u64 <= count {
+        return false;
+    }
     let Some(last) = order.last().copied() else {
         return false;
     };
-    if resources.contains_key(&last) {
+    if !has_gone(resources, last, gone) {
         return false;
     }
     let _gone = order.pop();
     true
+}
+
+// Whether the resource of a number has gone, as that of this number has.
+fn has_gone(resources: &NumberMap<Resource>, number: u64, gone: u64) -> bool
+    requires { get nat_eq resources.now gone ≡ None }
+    ensures { IsTrue result → get nat_eq resources.now number ≡ None }
+{
+    number == gone || !resources.contains_key(&number)
 }
 
 fn let_all_go(resources: &NumberMap<Resource>, order: &mut Vec<u64>)

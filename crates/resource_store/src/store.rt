@@ -182,7 +182,7 @@ impl Store {
         if let Some(resource) = self.resources.remove(&number) {
             self.gone.keep(resource);
             self.count -= 1;
-            let_gaps_go(&self.resources, &mut self.order, self.count);
+            let_gaps_go(&self.resources, &mut self.order, self.count, number);
         }
     }
 

@@ -121,6 +121,19 @@ module _ {S : Type 0} (r : ResourceData) (m n : HashMap ℕ (List ℕ) S) where
         ∙ has p ∙ ap numbers_of (skipped (picks p) xs ys r (under p r f))
   ]
 
+module _ {S : Type 0} (r : ResourceData) (m n : HashMap ℕ (List ℕ) S) where
+  -- the same of those of a type, where it is of that type
+  pub kin_less : (ty : Ty) (xs ys : List ResourceData) → has r.number xs ≡ false → has r.number ys ≡ false → HasNumbers (is_kin ty) (xs ++ r ∷ ys) m → ((p : ℕ) → queue_at n p ≡ cond (nat_eq r.parent p && is_ty r.ty ty) (without_number r.number (queue_at m p)) (queue_at m p)) → HasNumbers (is_kin ty) (xs ++ ys) n
+  kin_less ty xs ys none lacks has takes p = elim (cases_Bool (is_kin ty p r)) [
+    | inl t ↦
+        takes p ∙ ap (λ b. cond b (without_number r.number (queue_at m p)) (queue_at m p)) t
+        ∙ ap (without_number r.number) (has p)
+        ∙ gone_numbers (is_kin ty p) xs ys r none lacks
+    | inr f ↦
+        takes p ∙ ap (λ b. cond b (without_number r.number (queue_at m p)) (queue_at m p)) f
+        ∙ has p ∙ ap numbers_of (skipped (is_kin ty p) xs ys r f)
+  ]
+
 -- ---- the sums
 
 sizes-cons : (p : ℕ) (x : ResourceData) (xs : List ResourceData) → sizes_of p (x ∷ xs) ≡ cond (is_kin ContentInstance p x) (instance_size x) 0 + sizes_of p xs
@@ -164,9 +177,26 @@ module _ {S : Type 0} (r : ResourceData) (m n : HashMap ℕ ℕ S) where
           let split = sizes-split p xs ys r in
           omega (arith, was, is, split)
 
-pub kept_sum : (o after : Option ℕ) (b : Bool) (s : ℕ) → after ≡ cond b None o → after ≡ Some s → o ≡ Some s
-kept_sum o after true s forgets is = absurd (let wrong : None ≡ Some s = sym forgets ∙ is in cc)
-kept_sum o after false s forgets is = sym forgets ∙ is
+-- what is none of a type isn't taken from these, and what is one is
+pub none_taken : {X : Type 0} (a b : Bool) (x y : X) → b ≡ false → cond (a && b) x y ≡ y
+none_taken true b x y none = ap (λ c. cond c x y) none
+none_taken false b x y none = refl
+
+pub one_taken : {X : Type 0} (a b : Bool) (x y : X) → b ≡ true → cond (a && b) x y ≡ cond a x y
+one_taken true b x y one = ap (λ c. cond c x y) one
+one_taken false b x y one = refl
+
+pub nothing_less : (o : Option ℕ) (s : ℕ) → o ≡ Some s → option_map (λ t. t - 0) o ≡ Some s
+nothing_less (Some t) s same =
+    let is : t ≡ s = same_Some t s same in
+    let less : t - 0 ≡ s = omega (arith, is) in
+    ap Some less
+nothing_less None s same = cc
+
+-- a sum that isn't forgotten is that of another container
+pub kept_elsewhere : (o after : Option ℕ) (a b : Bool) (size s : ℕ) → after ≡ cond a None o → after ≡ Some s → option_map (λ t. t - cond (a && b) size 0) o ≡ Some s
+kept_elsewhere o after true b size s forgets is = absurd (let wrong : None ≡ Some s = sym forgets ∙ is in cc)
+kept_elsewhere o after false b size s forgets is = nothing_less o s (sym forgets ∙ is)
 
 -- what is put, where it is forgotten at once
 pub put_forgotten : (b : Bool) (v o mid after : Option ℕ) (s : ℕ) → mid ≡ o → after ≡ cond b None mid → after ≡ Some s → cond b v o ≡ Some s
@@ -275,27 +305,32 @@ takes_from r m n a b ea eb h p =
     h p ∙ ap (λ x. cond (nat_eq x p) (without_number a (queue_at m p)) (queue_at m p)) eb
     ∙ ap (λ x. cond (nat_eq r.parent p) (without_number x (queue_at m p)) (queue_at m p)) ea
 
--- a resource is taken from its parent in all queues and from its sum
+-- a resource is taken from its parent, in the queues that have it and from its sum
 pub record TakesAll (row : KinRow) (before after : Kin) : Type 0 where
   pub children : (p : ℕ) → queue_at after.children p ≡ cond (nat_eq row.parent p) (without_number row.number (queue_at before.children p)) (queue_at before.children p)
-  pub instances : (p : ℕ) → queue_at after.instances p ≡ cond (nat_eq row.parent p) (without_number row.number (queue_at before.instances p)) (queue_at before.instances p)
-  pub subs : (p : ℕ) → queue_at after.subs p ≡ cond (nat_eq row.parent p) (without_number row.number (queue_at before.subs p)) (queue_at before.subs p)
-  pub channels : (p : ℕ) → queue_at after.channels p ≡ cond (nat_eq row.parent p) (without_number row.number (queue_at before.channels p)) (queue_at before.channels p)
-  pub sums : (p s : ℕ) → get nat_eq after.sums p ≡ Some s → option_map (λ t. t - cond (nat_eq row.parent p) row.size 0) (get nat_eq before.sums p) ≡ Some s
+  pub instances : (p : ℕ) → queue_at after.instances p ≡ cond (nat_eq row.parent p && is_ty row.ty ContentInstance) (without_number row.number (queue_at before.instances p)) (queue_at before.instances p)
+  pub subs : (p : ℕ) → queue_at after.subs p ≡ cond (nat_eq row.parent p && is_ty row.ty Subscription) (without_number row.number (queue_at before.subs p)) (queue_at before.subs p)
+  pub channels : (p : ℕ) → queue_at after.channels p ≡ cond (nat_eq row.parent p && is_ty row.ty PollingChannel) (without_number row.number (queue_at before.channels p)) (queue_at before.channels p)
+  pub sums : (p s : ℕ) → get nat_eq after.sums p ≡ Some s → option_map (λ t. t - cond (nat_eq row.parent p && is_ty row.ty ContentInstance) row.size 0) (get nat_eq before.sums p) ≡ Some s
+
+-- what is no instance has no size
+size_of_kin : (a b : Bool) (size : ℕ) → cond (a && b) (cond b size 0) 0 ≡ cond a (cond b size 0) 0
+size_of_kin true true size = refl
+size_of_kin true false size = refl
+size_of_kin false b size = refl
 
 -- what stays once one of a list is taken
 kin_taken : (xs ys : List ResourceData) (r : ResourceData) (row : KinRow) (before after : Kin) → has r.number xs ≡ false → has r.number ys ≡ false → row ≡ row_of r → HasKin (xs ++ r ∷ ys) before → TakesAll row before after → HasKin (xs ++ ys) after
 kin_taken xs ys r row before after none lacks is has_it takes =
-    let number : row.number ≡ r.number = ap (λ (x : KinRow). x.number) is in
-    let parent : row.parent ≡ r.parent = ap (λ (x : KinRow). x.parent) is in
+    let own : TakesAll (row_of r) before after = subst (λ x. TakesAll x before after) is takes in
     record {
-      children = taken r before.children after.children is_under xs ys under_picks none lacks has_it.children (takes_from r before.children after.children row.number row.parent number parent takes.children);
+      children = taken r before.children after.children is_under xs ys under_picks none lacks has_it.children own.children;
       types = record {
-        instances = taken r before.instances after.instances (is_kin ContentInstance) xs ys (kin_picks ContentInstance) none lacks has_it.types.instances (takes_from r before.instances after.instances row.number row.parent number parent takes.instances);
-        subs = taken r before.subs after.subs (is_kin Subscription) xs ys (kin_picks Subscription) none lacks has_it.types.subs (takes_from r before.subs after.subs row.number row.parent number parent takes.subs);
-        channels = taken r before.channels after.channels (is_kin PollingChannel) xs ys (kin_picks PollingChannel) none lacks has_it.types.channels (takes_from r before.channels after.channels row.number row.parent number parent takes.channels);
+        instances = kin_less r before.instances after.instances ContentInstance xs ys none lacks has_it.types.instances own.instances;
+        subs = kin_less r before.subs after.subs Subscription xs ys none lacks has_it.types.subs own.subs;
+        channels = kin_less r before.channels after.channels PollingChannel xs ys none lacks has_it.types.channels own.channels;
       };
-      sums = sums_taken r before.sums after.sums xs ys has_it.sums (λ p s e. ap (λ (x : KinRow). option_map (λ t. t - cond (nat_eq x.parent p) x.size 0) (get nat_eq before.sums p)) (sym is) ∙ takes.sums p s e);
+      sums = sums_taken r before.sums after.sums xs ys has_it.sums (λ p s e. ap (λ k. option_map (λ t. t - k) (get nat_eq before.sums p)) (sym (size_of_kin (nat_eq r.parent p) (is_ty r.ty ContentInstance) (instance_size r))) ∙ own.sums p s e);
     }
 
 -- ---- one more, and none more

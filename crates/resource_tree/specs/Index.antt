@@ -16,9 +16,9 @@ use Rattle.resource_tree.specs.Queue.{queue_at}
 abbrev pub row_size : ResourceData → ℕ
 row_size r = if is_ty r.ty ContentInstance then instance_size r else 0
 
--- its number, that of its parent, and its size
+-- its number, that of its parent, its type, and its size
 abbrev pub row_of : ResourceData → KinRow
-row_of r = record { number = r.number; parent = r.parent; size = row_size r }
+row_of r = record { number = r.number; parent = r.parent; ty = r.ty; size = row_size r }
 
 -- each parent has the numbers of those that a test picks for it, in order of creation
 abbrev pub HasNumbers : {S : Type 0} → (ℕ → ResourceData → Bool) → List ResourceData

@@ -1,8 +1,9 @@
 //! The tree with an index.
 ghost use Rattle.std.specs.Prelude.{◌≡◌, [], ◌∷◌, IfOk};
 
-use crate::kin::{Kin, count_of_kin, kin_at, kin_last};
+use crate::kin::{Kin, count_of_kin, is_of, kin_at, kin_last};
 use crate::sums::known_sum;
+use m2m_names::Ty;
 use m2m_value::Numbers;
 use resource_dues::{Dues, due_of, has_come};
 use resource_model::Resource;
@@ -72,8 +73,28 @@ impl IndexTree {
     ghost use Rattle.tree_model.specs.Tree.{at, children_of, has, is_tree, last_number, without};
     ghost use Rattle.tree_model.specs.Tree.{without_all};
 
-    // Removes a resource with all that stands below it, the newest first.
+    // Removes a resource with all that stands below it.
     fn remove_one(&mut self, number: u64)
+        ensures value { self.new ≡ without (has_number number) self.old }
+        ensures tree { IsTrue (is_tree self.old) }
+    {
+        if self.is_leaf(number) {
+            let _parent = self.remove_leaf(number);
+        } else {
+            self.remove_branch(number)
+        }
+    }
+
+    // Whether nothing stands below a resource.
+    fn is_leaf(&self, number: u64) -> bool
+        ensures alone { IsTrue result → children_of number self.now ≡ [] }
+        ensures tree { IsTrue (is_tree self.now) }
+    {
+        count_of_kin(&self.kin.children, number) == 0
+    }
+
+    // The same, where something stands below it: the newest goes first.
+    fn remove_branch(&mut self, number: u64)
         ensures value { self.new ≡ without (has_number number) self.old }
         ensures tree { IsTrue (is_tree self.old) }
     {
@@ -82,11 +103,10 @@ impl IndexTree {
         }
         let mut leaf = self.newest_below(number);
         while leaf != number {
-            let parent = self.parent_of(leaf);
-            self.remove_leaf(leaf);
+            let parent = self.remove_leaf(leaf);
             leaf = self.newest_below(parent);
         }
-        self.remove_leaf(number);
+        let _parent = self.remove_leaf(number);
     }
 
     // The newest child of a resource, its newest child, and so on: the last of them. Whatever takes
@@ -114,25 +134,21 @@ impl IndexTree {
         kin_last(&self.kin.children, parent)
     }
 
-    // The number of the parent of a resource, or 0.
-    fn parent_of(&self, number: u64) -> u64
-        ensures value { result
-            ≡ option_map_or (λ (r : ResourceData). r.parent) (at number self.now) 0 }
-        ensures tree { IsTrue (is_tree self.now) }
-    {
-        match self.list.get(number) {
-            Some(resource) => resource.parent(),
-            None => 0,
-        }
-    }
-
-    fn remove_leaf(&mut self, number: u64)
+    // Removes a resource below which none stands. The number of its parent is told, or 0 where it
+    // isn't there.
+    fn remove_leaf(&mut self, number: u64) -> u64
         requires { children_of number self.old ≡ [] }
-        ensures { self.new ≡ without (has_number number) self.old }
+        ensures value { self.new ≡ without (has_number number) self.old }
+        ensures parent { result
+            ≡ option_map_or (λ (r : ResourceData). r.parent) (at number self.old) 0 }
+        ensures tree { IsTrue (is_tree self.old) }
     {
-        let parent = self.kin.remove(&self.list, number);
+        let row = self.kin.remove(&self.list, number);
         self.list.remove_leaf(number);
-        self.named.note_gone(&self.list, number, parent);
+        let is_instance = is_of(row, Ty::ContentInstance);
+        self.named
+            .note_gone(&self.list, number, row.parent, is_instance);
+        row.parent
     }
 
     // Where most moments stand for resources that have gone, these moments go. Some of what was

@@ -4,8 +4,10 @@ ghost use Rattle.std.specs.Prelude.{IsTrue, nat_eq, slice_get, ◌&&◌, if◌th
 ghost use Rattle.std.specs.Prelude.{filter, not, option_map};
 ghost use Rattle.std.specs.HashMap.{get};
 ghost use Rattle.std.specs.List.{list_all};
-ghost use Rattle.resource_model.specs.Resource.{has_number, is_ty};
-ghost use Rattle.m2m_names.specs.declared.types.Ty.TheVariants.{ContentInstance};
+ghost use Rattle.std.specs.Option.{option_map_or};
+ghost use Rattle.resource_model.specs.Resource.{ResourceData, has_number, is_ty};
+ghost use Rattle.m2m_names.specs.declared.types.Ty.TheVariants.{ContentInstance, PollingChannel};
+ghost use Rattle.m2m_names.specs.declared.types.Ty.TheVariants.{Subscription};
 ghost use Rattle.tree_model.specs.Tree.{at, instance_size, is_tree, may_stand, replaced, standing};
 ghost use Rattle.resource_tree.specs.Index as spec;
 ghost use Rattle.resource_tree.specs.Index.{HasTypes, HasKin};
@@ -18,11 +20,12 @@ use resource_model::Resource;
 use resource_store::{NumberMap, Seeded, Store};
 use std::alloc::{AllocError as OutOfMemory, Global};
 
-/// Of a resource its number, that of its parent, and of an instance its size in bytes.
+/// Of a resource its number, that of its parent, its type, and of an instance its size in bytes.
 #[derive(Clone, Copy)]
 pub(crate) struct KinRow {
     pub(crate) number: u64,
     pub(crate) parent: u64,
+    pub(crate) ty: Ty,
     pub(crate) size: u64,
 }
 
@@ -33,8 +36,16 @@ pub(crate) fn row_of(resource: &Resource) -> KinRow
     KinRow {
         number: resource.number(),
         parent: resource.parent(),
+        ty: resource.ty(),
         size: row_size(resource),
     }
+}
+
+/// Whether it is that of a resource of this type.
+pub(crate) fn is_of(row: KinRow, ty: Ty) -> bool
+    ensures { result ≡ is_ty row.ty ty }
+{
+    row.ty.number() == ty.number()
 }
 
 fn row_size(resource: &Resource) -> u64
@@ -178,20 +189,27 @@ impl Kin {
         }
     }
 
-    /// Without the resource of a number, which goes alone. The list has it still. Its parent is
-    /// told, where it is there.
-    pub(crate) fn remove(&mut self, list: &Store, number: u64) -> u64
+    /// Without the resource of a number, which goes alone. The list has it still. Its row is told;
+    /// that of none has no parent.
+    pub(crate) fn remove(&mut self, list: &Store, number: u64) -> KinRow
         requires tree { IsTrue (is_tree list.now) }
         requires kin { HasKin list.now self.old }
-        ensures { HasKin (filter (λ r. not (has_number number r)) list.now) self.new }
+        ensures kin { HasKin (filter (λ r. not (has_number number r)) list.now) self.new }
+        ensures parent { result.parent
+            ≡ option_map_or (λ (r : ResourceData). r.parent) (at number list.now) 0 }
     {
         match list.get(number) {
             Some(resource) => {
                 let row = row_of(resource);
                 self.take(row);
-                row.parent
+                row
             }
-            None => 0,
+            None => KinRow {
+                number,
+                parent: 0,
+                ty: Ty::CseBase,
+                size: 0,
+            },
         }
     }
 
@@ -201,25 +219,47 @@ impl Kin {
             ≡ if nat_eq row.parent p then without_number row.number (queue_at self.old.children p)
             else queue_at self.old.children p }
         ensures instances { (p : ℕ) → queue_at self.new.instances p
-            ≡ if nat_eq row.parent p then without_number row.number (queue_at self.old.instances p)
+            ≡ if nat_eq row.parent p && is_ty row.ty ContentInstance
+            then without_number row.number (queue_at self.old.instances p)
             else queue_at self.old.instances p }
         ensures subs { (p : ℕ) → queue_at self.new.subs p
-            ≡ if nat_eq row.parent p then without_number row.number (queue_at self.old.subs p)
+            ≡ if nat_eq row.parent p && is_ty row.ty Subscription
+            then without_number row.number (queue_at self.old.subs p)
             else queue_at self.old.subs p }
         ensures channels { (p : ℕ) → queue_at self.new.channels p
-            ≡ if nat_eq row.parent p then without_number row.number (queue_at self.old.channels p)
+            ≡ if nat_eq row.parent p && is_ty row.ty PollingChannel
+            then without_number row.number (queue_at self.old.channels p)
             else queue_at self.old.channels p }
         ensures sums { (p s : ℕ) → get nat_eq self.new.sums p ≡ Some s
-            → option_map (λ t. t - (if nat_eq row.parent p then row.size else 0))
-            (get nat_eq self.old.sums p) ≡ Some s }
+            → option_map (λ t. t - (if nat_eq row.parent p && is_ty row.ty ContentInstance
+            then row.size else 0)) (get nat_eq self.old.sums p) ≡ Some s }
     {
         take_kin(&mut self.children, row.parent, row.number);
-        take_kin(&mut self.instances, row.parent, row.number);
-        take_kin(&mut self.subs, row.parent, row.number);
-        take_kin(&mut self.channels, row.parent, row.number);
-        take_sum(&mut self.sums, row.parent, row.size);
-        if count_of_kin(&self.instances, row.parent) == 0 {
+        self.take_instance(row);
+        take_if(&mut self.subs, is_of(row, Ty::Subscription), row);
+        take_if(&mut self.channels, is_of(row, Ty::PollingChannel), row);
+    }
+
+    // Where it is an instance, it is taken from those of its parent, and its size from their sum.
+    fn take_instance(&mut self, row: KinRow)
+        ensures children { self.new.children ≡ self.old.children }
+        ensures instances { (p : ℕ) → queue_at self.new.instances p
+            ≡ if nat_eq row.parent p && is_ty row.ty ContentInstance
+            then without_number row.number (queue_at self.old.instances p)
+            else queue_at self.old.instances p }
+        ensures subs { self.new.subs ≡ self.old.subs }
+        ensures channels { self.new.channels ≡ self.old.channels }
+        ensures sums { (p s : ℕ) → get nat_eq self.new.sums p ≡ Some s
+            → option_map (λ t. t - (if nat_eq row.parent p && is_ty row.ty ContentInstance
+            then row.size else 0)) (get nat_eq self.old.sums p) ≡ Some s }
+    {
+        if !is_of(row, Ty::ContentInstance) {
+            return;
+        }
+        if takes_last(&mut self.instances, row.parent, row.number) {
             forget_sum(&mut self.sums, row.parent);
+        } else {
+            take_sum(&mut self.sums, row.parent, row.size);
         }
     }
 }
@@ -301,8 +341,29 @@ pub(crate) fn take_kin(kin: &mut NumberMap<Queue>, parent: u64, number: u64)
         ≡ if nat_eq parent p then without_number number (queue_at kin.old p)
         else queue_at kin.old p }
 {
-    if take_from(kin, parent, number) {
+    let _last = takes_last(kin, parent, number);
+}
+
+// The same, and whether the parent has none then.
+fn takes_last(kin: &mut NumberMap<Queue>, parent: u64, number: u64) -> bool
+    ensures { (p : ℕ) → queue_at kin.new p
+        ≡ if nat_eq parent p then without_number number (queue_at kin.old p)
+        else queue_at kin.old p }
+{
+    let is_last = take_from(kin, parent, number);
+    if is_last {
         let _empty = kin.remove(&parent);
+    }
+    is_last
+}
+
+// The same of a row, where it is one of these.
+fn take_if(kin: &mut NumberMap<Queue>, is_one: bool, row: KinRow)
+    ensures { (p : ℕ) → queue_at kin.new p ≡ if nat_eq row.parent p && is_one
+        then without_number row.number (queue_at kin.old p) else queue_at kin.old p }
+{
+    if is_one {
+        take_kin(kin, row.parent, row.number);
     }
 }
 

@@ -1,5 +1,6 @@
 use Rattle.std.specs.Prelude.{nat_eq}
-use Rattle.std.proofs.Common.{◌≡◌, ◌+◌, ◌-◌, [], List, Some, suc, ap, sym, ◌∙◌, arith, length}
+use Rattle.std.proofs.Common.{◌≡◌, ◌+◌, ◌-◌, [], List, None, Some, suc, cond, refl, ap, sym, ◌∙◌, arith, length}
+use Rattle.std.proofs.lemmas.Bool.{eq-eqb}
 use Rattle.std.specs.HashMap.{get}
 use Rattle.resource_model.specs.Resource.{ResourceData, has_number}
 use Rattle.tree_model.specs.Tree.{children_of, has, without}
@@ -12,6 +13,11 @@ overflow_sub-self c =
     let some : get nat_eq c.self.inside.resources c.args.number ≡ Some c.in-Some.resource = sym c.in-Some.ensures.value in
     let more = count_left c.self.inside.resources c.remove.new.self c.self.inside.order.items c.self.inside.count c.args.number c.in-Some.resource c.self.invariant.store c.remove.ensures.updates.0 some in
     omega (arith, more)
+
+pub let_gaps_go-requires : goal.let_gaps_go-requires
+let_gaps_go-requires c =
+    c.remove.ensures.updates.0 c.args.number
+    ∙ ap (λ b. cond b None (get nat_eq c.self.inside.resources c.args.number)) (eq-eqb c.args.number c.args.number refl)
 
 pub invariant_of-self : goal.invariant_of-self
 invariant_of-self c =

@@ -16,7 +16,7 @@ invariant_of-self c =
     let kept = subst (λ (ns : List ResourceData). ns ≡ filter (λ r. has r.number ns) nodes) (sym c.remove_leaf.ensures) (left_kept (has_number c.args.number) nodes c.self.invariant.tree) in
     record {
       tree = ap is_tree c.remove_leaf.ensures ∙ is_tree-without (has_number c.args.number) nodes c.self.invariant.tree;
-      queues = subst (λ (ns : List ResourceData). HasKin ns c.remove-parent.new.self) (sym (leaf_without c.args.number nodes c.self.invariant.tree alone) ∙ sym c.remove_leaf.ensures) c.remove-parent.ensures;
+      queues = subst (λ (ns : List ResourceData). HasKin ns c.remove-row.new.self) (sym (leaf_without c.args.number nodes c.self.invariant.tree alone) ∙ sym c.remove_leaf.ensures) c.remove-row.ensures.kin;
       told = dues_left (has_number c.args.number) nodes _ c.self.inside.dues c.self.invariant.tree c.remove_leaf.ensures c.self.invariant.told;
       names = c.note_gone.ensures (named_within nodes _ (left_within nodes _ kept) c.self.inside.named c.self.invariant.names);
     }

@@ -1,6 +1,6 @@
 use Rattle.std.proofs.Common.{length}
 use Rattle.resource_tree.proofs.RemovalLemmas.{IsGoing}
-use Rattle.resource_tree.proofs.index_tree.IndexTree.remove_one.Given as goal
+use Rattle.resource_tree.proofs.index_tree.IndexTree.remove_branch.Given as goal
 
 -- what is left to be removed is what it was, and a leaf of it is at hand
 abbrev pub invariant-loop-leaf : goal.invariant-loop-leaf

@@ -5,7 +5,7 @@ use Rattle.tree_model.specs.Tree.{has, without}
 use Rattle.tree_model.proofs.LiveLemmas.{without_none}
 use Rattle.resource_tree.proofs.RemovalLemmas.{IsGoing, fewer, going_up, number_goes}
 use Rattle.std.proofs.Common.{refl}
-use Rattle.resource_tree.proofs.index_tree.IndexTree.remove_one.Goals as goal
+use Rattle.resource_tree.proofs.index_tree.IndexTree.remove_branch.Goals as goal
 
 pub returns-then-not-has-clause-value : goal.returns-then-not-has-clause-value
 returns-then-not-has-clause-value c =
@@ -23,15 +23,15 @@ loop-leaf-init c = record {
 
 pub newest_below-leaf-requires-in-loop-leaf : goal.newest_below-leaf-requires-in-loop-leaf
 newest_below-leaf-requires-in-loop-leaf c =
-    (going_up c.args.number c.loop-leaf.leaf c.parent_of-parent.result c.args.self.now c.loop-leaf.self c.remove_leaf.new.self c.parent_of-parent.ensures.tree c.loop-leaf.invariant (ne_eqb c.loop-leaf.leaf c.args.number c.loop-leaf-test.true) c.parent_of-parent.ensures.value c.remove_leaf.ensures).1
+    (going_up c.args.number c.loop-leaf.leaf c.remove_leaf-parent.result c.args.self.now c.loop-leaf.self c.remove_leaf-parent.new.self c.remove_leaf-parent.ensures.tree c.loop-leaf.invariant (ne_eqb c.loop-leaf.leaf c.args.number c.loop-leaf-test.true) c.remove_leaf-parent.ensures.parent c.remove_leaf-parent.ensures.value).1
 
 pub loop-leaf-smaller : goal.loop-leaf-smaller
 loop-leaf-smaller c =
-    subst (λ (ns : List ResourceData). length ns < length c.loop-leaf.self) (sym c.remove_leaf.ensures) (fewer c.loop-leaf.leaf c.loop-leaf.self c.parent_of-parent.ensures.tree c.loop-leaf.invariant.there)
+    subst (λ (ns : List ResourceData). length ns < length c.loop-leaf.self) (sym c.remove_leaf-parent.ensures.value) (fewer c.loop-leaf.leaf c.loop-leaf.self c.remove_leaf-parent.ensures.tree c.loop-leaf.invariant.there)
 
 pub loop-leaf-preserved : goal.loop-leaf-preserved
 loop-leaf-preserved c =
-    let up = going_up c.args.number c.loop-leaf.leaf c.parent_of-parent.result c.args.self.now c.loop-leaf.self c.remove_leaf.new.self c.parent_of-parent.ensures.tree c.loop-leaf.invariant (ne_eqb c.loop-leaf.leaf c.args.number c.loop-leaf-test.true) c.parent_of-parent.ensures.value c.remove_leaf.ensures in
+    let up = going_up c.args.number c.loop-leaf.leaf c.remove_leaf-parent.result c.args.self.now c.loop-leaf.self c.remove_leaf-parent.new.self c.remove_leaf-parent.ensures.tree c.loop-leaf.invariant (ne_eqb c.loop-leaf.leaf c.args.number c.loop-leaf-test.true) c.remove_leaf-parent.ensures.parent c.remove_leaf-parent.ensures.value in
     record {
       whole = up.0;
       alone = c.newest_below-leaf-in-loop-leaf.ensures.alone;
