@@ -94,6 +94,7 @@ impl Came {
     }
 
     /// The reply to a request.
+    #[inline(always)]
     pub fn of_reply(reply: Reply) -> Came
         ensures { result ≡ OfMachine (Done reply) }
     {
@@ -147,11 +148,13 @@ impl Came {
     }
 
     /// The outcome of the machine; or that memory ran out, where no event of it was asked.
+    #[inline(always)]
     pub fn into_machine_outcome(self) -> Outcome
         ensures { result ≡ machine_outcome self }
     {
         match self.form {
-            CameForm::Replied(reply) => Outcome::Done(reply),
+            // What stands in a box is taken out where a whole outcome has room; a reply needs less.
+            CameForm::Replied(reply) => return Outcome::Done(reply),
             CameForm::Starved(done) => Outcome::Starved { done },
             CameForm::Ticked => Outcome::Ticked,
             CameForm::NoneLeft | CameForm::Taken => Outcome::Starved { done: 0 },

@@ -11,6 +11,7 @@ use Rattle.cse_machine.specs.declared.event.Outcome.TheVariants.{Done, Forward, 
 use Rattle.group_fanout.proofs.FanLemmas.{none_cut}
 use Rattle.guard_laws.proofs.HistoryLemmas.{onward_leaves}
 use Rattle.journal_events.specs.Steps.{KeptEntityStep, Looks, OnlyExpires, StepsAsMachine, TakesSent}
+use Rattle.journal_events.specs.Came.{machine_outcome}
 use Rattle.journal_events.specs.declared.event.KeptEvent.{KeptEvent}
 use Rattle.journal_events.specs.declared.event.KeptEvent.TheVariants as events
 use Rattle.journal_events.specs.declared.event.KeptOutcome.{KeptOutcome}
@@ -49,6 +50,12 @@ module _ (reading : ℕ) (before after : EntityData) where
   handed_steps event outcome came step (inr (on, starved)) =
       subst (λ (o : KeptOutcome). StepsAsMachine reading event before o after) (sym starved) (onward_starved event outcome step on)
 
+  -- what comes of an event of the machine is its outcome
+  pub machine_steps : (event : Event) (came : KeptOutcome) → StepsAsMachine reading event before came after → Step reading event before (machine_outcome came) after
+  machine_steps event (outcomes.OfMachine outcome) step = step
+  machine_steps event (outcomes.Next given) step = absurd step
+  machine_steps event outcomes.Taken step = absurd step
+
   -- and changes no more
   onward_quiet : (event : Event) (outcome : Outcome) → goes_on outcome ≡ true → may_change (swept reading before) event outcome after ≡ false
   onward_quiet event (Done reply) on = absurd (true≢false (sym on))
@@ -68,7 +75,7 @@ module _ (reading : ℕ) (before after : EntityData) where
   starved_still : (outcome : Outcome) → OnlyExpires reading before outcome after → OnlyExpires reading before (Starved 0) after
   starved_still outcome only = record { starved = refl; ticked = only.ticked; expires = only.expires }
 
-  looks_handed : (told came : KeptOutcome) → Looks reading before told after → IsHandedOn told came → Looks reading before came after
+  pub looks_handed : (told came : KeptOutcome) → Looks reading before told after → IsHandedOn told came → Looks reading before came after
   looks_handed (outcomes.OfMachine outcome) came looks (inl same) =
       subst (λ (o : KeptOutcome). Looks reading before o after) (sym same) looks
   looks_handed (outcomes.OfMachine outcome) came looks (inr (on, starved)) =

@@ -2,7 +2,7 @@
 ghost use Rattle.std.specs.Prelude.{◌≡◌, IfSome};
 ghost use Rattle.journaled_entity.specs.Handing as spec;
 
-use cse_machine::Outcome;
+use cse_machine::{ObservedStep, Outcome};
 use journal_events::{Came, KeptOutcome};
 use notify_outbox::Item;
 use std::alloc::Global;
@@ -16,8 +16,8 @@ fn goes_on(outcome: &Outcome) -> bool
 
 /// What came of an event of the machine, to be handed on. A request that goes on is answered as one
 /// for which memory ran out, where it runs out here. None where it does for an item that was taken.
-#[inline(always)]
-pub(crate) fn hand_outcome_on(alloc: Global, outcome: Outcome) -> Option<Came>
+#[inline(never)]
+fn hand_outcome_on(alloc: Global, outcome: Outcome) -> Option<Came>
     ensures { IfSome result (spec.IsMachineHandedOn outcome) }
 {
     let forwarded = goes_on(&outcome);
@@ -30,6 +30,18 @@ pub(crate) fn hand_outcome_on(alloc: Global, outcome: Outcome) -> Option<Came>
                 None
             }
         }
+    }
+}
+
+/// What came of a step that was observed, to be handed on as an outcome is. A reply is taken from
+/// where it stands: an outcome has many bytes more.
+#[inline(always)]
+pub(crate) fn hand_observed_on(alloc: Global, observed: ObservedStep) -> Option<Came>
+    ensures { IfSome result (spec.IsMachineHandedOn observed.outcome) }
+{
+    match observed.outcome {
+        Outcome::Done(reply) => Some(Came::of_reply(reply)),
+        other => hand_outcome_on(alloc, other),
     }
 }
 

@@ -14,12 +14,20 @@ use std::alloc::Global;
 
 /// Whether the lines of the request are made ready before it is done. They aren't for a Retrieve
 /// whose address is that of no poll point, which takes nothing.
-fn is_made_ready(request: &Request) -> bool {
+fn is_asking_made_ready(request: &Request) -> bool {
     !retrieves(request.parts().op) || matches!(request.parts().to.entries(), [.., b'p', b'c', b'u'])
 }
 
-/// Appends the lines of a request, where they are made ready. One that has form and can't be kept
-/// is a fault.
+/// Whether the lines of the event are made ready before it is done. An expiry has none of its own.
+pub(crate) fn is_made_ready(event: &Event) -> bool {
+    match event {
+        Event::Ask(request) => is_asking_made_ready(request),
+        Event::Take => true,
+        Event::Tick => false,
+    }
+}
+
+/// Appends the lines of a request. One that has form and can't be kept is a fault.
 fn push_ask(
     alloc: Global,
     lines: &mut Vec<u8>,
@@ -32,9 +40,6 @@ fn push_ask(
     ensures readable { IfOk result (λ own. own ≡ true → IsReadBack (Ask request.now)) }
     ensures err { OnErr result (lines.new.items ≡ lines.old.items) }
 {
-    if !is_made_ready(request) {
-        return Ok(false);
-    }
     match push_request(alloc, lines, moment, request) {
         Ok(()) => Ok(true),
         Err(LineFault::Unkept) if !has_form(request) => Ok(false),

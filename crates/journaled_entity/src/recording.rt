@@ -7,8 +7,8 @@ ghost use Rattle.cse_machine.specs.Step as steps;
 ghost use Rattle.cse_machine.specs.Step.{Step};
 ghost use Rattle.cse_machine.specs.declared.event.Event.TheVariants as events;
 ghost use Rattle.cse_machine.specs.declared.event.Outcome.TheVariants.{Starved};
-ghost use Rattle.journal_events.specs.Steps.{KeptEntityStep, Looks, OnlyExpires, TakesSent};
-ghost use Rattle.journal_events.specs.Steps.{is_next, without_sent};
+ghost use Rattle.journal_events.specs.Steps.{KeptEntityStep, Looks, OnlyExpires, StepsAsMachine};
+ghost use Rattle.journal_events.specs.Steps.{TakesSent, is_next, without_sent};
 ghost use Rattle.journal_events.specs.declared.event.KeptOutcome.TheVariants as outcomes;
 ghost use Rattle.journal_lines.specs.Lines.{IsReadBack, lines_of, moment_bound};
 ghost use Rattle.journal_opening.specs.Journals.{event_deed};
@@ -16,12 +16,13 @@ ghost use Rattle.kept_object.specs.Records.{Records};
 ghost use Rattle.journal_lines.specs.declared.deed.Deed.TheVariants.{Take};
 ghost use Rattle.journaled_entity.specs.Changes as spec;
 ghost use Rattle.journaled_entity.specs.Changes.{differs, is_cut_short, is_ticked};
+ghost use Rattle.journaled_entity.specs.Changes.{machine_may_change};
 ghost use Rattle.journaled_entity.specs.Keeping.{KeepsEntity};
 ghost use Rattle.journaled_entity.specs.Written.{pushed};
 
 use crate::changes::may_change;
-use crate::handing::{hand_on, hand_outcome_on};
-use crate::lines::{push_event, push_expiry, push_taking};
+use crate::handing::{hand_observed_on, hand_on};
+use crate::lines::{is_made_ready, push_event, push_expiry, push_taking};
 use crate::sending::{copied_next, take_numbered};
 use cse_machine::{Event, ObservedStep, Outcome, observe_step};
 use entity_model::{Entity, event_moment};
@@ -67,26 +68,6 @@ fn moment_of<T: Tree>(entity: &Entity<T>, reading: u64) -> u64
     ensures small { result < moment_bound }
 {
     event_moment(entity.last, reading)
-}
-
-/// Takes a step of the machine, and tells whether resources or items came or went by it.
-fn advance<T: Tree>(
-    alloc: Global,
-    entity: &mut Entity<T>,
-    reading: u64,
-    event: &Event,
-) -> (ObservedStep, bool)
-    ensures step { Step reading event.now entity.old result.0.outcome entity.new }
-    ensures took { result.0.took
-        ≡ steps.took (swept reading entity.old) result.0.outcome entity.new }
-    ensures differs { result.1 ≡ differs entity.old entity.new }
-    ensures sound { IsSoundEntity entity.old }
-{
-    let (nodes, items) = counts(entity);
-    let observed = observe_step(alloc, entity, reading, event);
-    let (nodes_now, items_now) = counts(entity);
-    let differs = nodes_now != nodes || items_now != items;
-    (observed, differs)
 }
 
 /// Whether memory ran out when members of a fan-out had been served.
@@ -161,34 +142,56 @@ impl<T: Tree> Journaled<T> {
         moment_of(&self.entity, reading)
     }
 
-    /// Takes a step of the machine, and tells whether resources or items came or went by it.
-    fn advance(&mut self, reading: u64, event: &Event) -> (ObservedStep, bool)
-        ensures step { Step reading event.now self.old result.0.outcome self.new }
-        ensures took { result.0.took
-            ≡ steps.took (swept reading self.old) result.0.outcome self.new }
-        ensures differs { result.1 ≡ differs self.old self.new }
-        ensures sound { IsSoundEntity self.old }
+    /// How many resources and how many items there are.
+    #[inline(always)]
+    fn counts(&self) -> (u64, u64)
+        ensures nodes { result.0 ≡ length self.now.nodes }
+        ensures items { result.1 ≡ length self.now.items }
+        ensures sound { IsSoundEntity self.now }
     {
-        advance(self.alloc, &mut self.entity, reading, event)
+        counts(&self.entity)
+    }
+
+    /// Whether resources or items came or went since there were so many.
+    #[inline(always)]
+    fn differs_from(&self, counts: (u64, u64)) -> bool
+        ensures { (before : EntityData) → counts.0 ≡ length before.nodes
+            → counts.1 ≡ length before.items → result ≡ differs before self.now }
+    {
+        let (nodes, items) = self.counts();
+        nodes != counts.0 || items != counts.1
+    }
+
+    /// Takes a step of the machine.
+    #[inline(always)]
+    fn step(&mut self, reading: u64, event: &Event) -> ObservedStep
+        ensures step { Step reading event.now self.old result.outcome self.new }
+        ensures took { result.took ≡ steps.took (swept reading self.old) result.outcome self.new }
+    {
+        observe_step(self.alloc, &mut self.entity, reading, event)
     }
 
     /// Takes a step for an event of which nothing is written down yet.
+    #[inline(always)]
     fn record_expiry(
         &mut self,
         reading: u64,
         event: &Event,
         moment: u64,
         lines: &mut Vec<u8>,
-    ) -> Option<Outcome>
+    ) -> Option<Came>
         requires moment { moment ≡ event_moment self.old.last reading }
         requires small { moment < moment_bound }
-        ensures step { IfSome result (λ outcome. Step reading event.now self.old outcome self.new) }
+        ensures step { IfSome result
+            (λ came. StepsAsMachine reading event.now self.old came self.new) }
         ensures records { IfSome result
             (λ _. Records KeepsEntity self.old lines.old.items self.new lines.new.items) }
         ensures sparing { IfSome result
             (λ _. differs self.old self.new ≡ false → lines.new.items ≡ lines.old.items) }
     {
-        let (observed, differs) = self.advance(reading, event);
+        let counts = self.counts();
+        let observed = self.step(reading, event);
+        let differs = self.differs_from(counts);
         if is_cut_short(&observed.outcome) {
             let_go(observed);
             return None;
@@ -199,7 +202,7 @@ impl<T: Tree> Journaled<T> {
             return None;
         }
         if push_expiry(self.alloc(), lines, moment, differs) {
-            Some(observed.outcome)
+            hand_observed_on(self.alloc(), observed)
         } else {
             let_go(observed);
             None
@@ -208,6 +211,7 @@ impl<T: Tree> Journaled<T> {
 
     /// Takes a step for an event whose own lines stand behind so many bytes. They stay where it may
     /// have changed something, and else go.
+    #[inline(never)]
     fn record_own(
         &mut self,
         reading: u64,
@@ -215,30 +219,33 @@ impl<T: Tree> Journaled<T> {
         moment: u64,
         lines: &mut Vec<u8>,
         len: usize,
-    ) -> Option<Outcome>
+    ) -> Option<Came>
         requires moment { moment ≡ event_moment self.old.last reading }
         requires small { moment < moment_bound }
         requires readable { IsReadBack (event_deed event.now) }
-        ensures step { IfSome result (λ outcome. Step reading event.now self.old outcome self.new) }
+        ensures step { IfSome result
+            (λ came. StepsAsMachine reading event.now self.old came self.new) }
         ensures records { (front : List ℕ) → length front ≡ len
             → lines.old.items ≡ front ++ lines_of moment (event_deed event.now)
             → IfSome result (λ _. Records KeepsEntity self.old front self.new lines.new.items) }
         ensures sparing { (front : List ℕ) → length front ≡ len
             → lines.old.items ≡ front ++ lines_of moment (event_deed event.now)
-            → IfSome result (λ outcome. spec.may_change (swept reading self.old) event.now outcome
+            → IfSome result (λ came. machine_may_change (swept reading self.old) event.now came
             self.new ≡ false → differs self.old self.new ≡ false → lines.new.items ≡ front) }
     {
-        let (observed, differs) = self.advance(reading, event);
+        let counts = self.counts();
+        let observed = self.step(reading, event);
+        let differs = self.differs_from(counts);
         if is_cut_short(&observed.outcome) {
             let_go(observed);
             return None;
         }
         if may_change(event, &observed) {
-            return Some(observed.outcome);
+            return hand_observed_on(self.alloc(), observed);
         }
         lines.truncate(len);
         if push_expiry(self.alloc(), lines, moment, differs) {
-            Some(observed.outcome)
+            hand_observed_on(self.alloc(), observed)
         } else {
             let_go(observed);
             None
@@ -246,6 +253,7 @@ impl<T: Tree> Journaled<T> {
     }
 
     /// Takes a step for an event whose own lines, where it has any, stand behind so many bytes.
+    #[inline(always)]
     fn record_pushed(
         &mut self,
         reading: u64,
@@ -254,17 +262,18 @@ impl<T: Tree> Journaled<T> {
         lines: &mut Vec<u8>,
         len: usize,
         has_own: bool,
-    ) -> Option<Outcome>
+    ) -> Option<Came>
         requires moment { moment ≡ event_moment self.old.last reading }
         requires small { moment < moment_bound }
         requires readable { has_own ≡ true → IsReadBack (event_deed event.now) }
-        ensures step { IfSome result (λ outcome. Step reading event.now self.old outcome self.new) }
+        ensures step { IfSome result
+            (λ came. StepsAsMachine reading event.now self.old came self.new) }
         ensures records { (front : List ℕ) → length front ≡ len
             → lines.old.items ≡ pushed has_own front moment event.now
             → IfSome result (λ _. Records KeepsEntity self.old front self.new lines.new.items) }
         ensures sparing { (front : List ℕ) → length front ≡ len
             → lines.old.items ≡ pushed has_own front moment event.now
-            → IfSome result (λ outcome. spec.may_change (swept reading self.old) event.now outcome
+            → IfSome result (λ came. machine_may_change (swept reading self.old) event.now came
             self.new ≡ false → differs self.old self.new ≡ false → lines.new.items ≡ front) }
     {
         if has_own {
@@ -275,11 +284,11 @@ impl<T: Tree> Journaled<T> {
     }
 
     /// What is due goes, and nothing else is done, as for want of memory.
-    fn pass_over(&mut self, reading: u64, moment: u64, lines: &mut Vec<u8>) -> Option<Outcome>
+    #[inline(never)]
+    fn pass_over(&mut self, reading: u64, moment: u64, lines: &mut Vec<u8>) -> Option<()>
         requires moment { moment ≡ event_moment self.old.last reading }
         requires small { moment < moment_bound }
-        ensures step { IfSome result
-            (λ outcome. OnlyExpires reading self.old outcome self.new) }
+        ensures step { IfSome result (λ _. OnlyExpires reading self.old (Starved 0) self.new) }
         ensures records { IfSome result
             (λ _. Records KeepsEntity self.old lines.old.items self.new lines.new.items) }
         ensures sparing { IfSome result
@@ -287,24 +296,43 @@ impl<T: Tree> Journaled<T> {
     {
         let expired = self.record_expiry(reading, &Event::Tick, moment, lines)?;
         drop(expired);
-        Some(Outcome::Starved { done: 0 })
+        Some(())
+    }
+
+    /// Takes a step for an event of the machine whose lines aren't made ready before.
+    #[inline(always)]
+    fn record_unready(&mut self, reading: u64, event: &Event, lines: &mut Vec<u8>) -> Option<Came>
+        ensures step { IfSome result
+            (λ came. StepsAsMachine reading event.now self.old came self.new) }
+        ensures records { IfSome result
+            (λ _. Records KeepsEntity self.old lines.old.items self.new lines.new.items) }
+        ensures sparing { IfSome result
+            (λ _. differs self.old self.new ≡ false → lines.new.items ≡ lines.old.items) }
+    {
+        let moment = self.moment(reading);
+        self.record_expiry(reading, event, moment, lines)
     }
 
     /// Takes a step for an event of the machine. A request that can't be kept isn't done, as for
     /// want of memory.
-    fn record_event(&mut self, reading: u64, event: &Event, lines: &mut Vec<u8>) -> Option<Outcome>
-        ensures step { IfSome result (λ outcome. Step reading event.now self.old outcome self.new) }
+    #[inline(always)]
+    fn record_event(&mut self, reading: u64, event: &Event, lines: &mut Vec<u8>) -> Option<Came>
+        ensures step { IfSome result
+            (λ came. StepsAsMachine reading event.now self.old came self.new) }
         ensures records { IfSome result
             (λ _. Records KeepsEntity self.old lines.old.items self.new lines.new.items) }
         ensures sparing { IfSome result
-            (λ outcome. spec.may_change (swept reading self.old) event.now outcome self.new ≡ false
+            (λ came. machine_may_change (swept reading self.old) event.now came self.new ≡ false
             → differs self.old self.new ≡ false → lines.new.items ≡ lines.old.items) }
     {
         let moment = self.moment(reading);
         let len = lines.len();
         match push_event(self.alloc(), lines, moment, event) {
             Ok(has_own) => self.record_pushed(reading, event, moment, lines, len, has_own),
-            Err(_) => self.pass_over(reading, moment, lines),
+            Err(_) => {
+                self.pass_over(reading, moment, lines)?;
+                Some(Came::starved(0))
+            }
         }
     }
 
@@ -321,8 +349,9 @@ impl<T: Tree> Journaled<T> {
     }
 
     /// What is due goes, and the item is told that is sent next.
-    fn record_look(&mut self, reading: u64, lines: &mut Vec<u8>) -> Option<KeptOutcome>
-        ensures step { IfSome result (λ outcome. Looks reading self.old outcome self.new) }
+    #[inline(never)]
+    fn record_look(&mut self, reading: u64, lines: &mut Vec<u8>) -> Option<Came>
+        ensures step { IfSome result (λ came. Looks reading self.old came self.new) }
         ensures records { IfSome result
             (λ _. Records KeepsEntity self.old lines.old.items self.new lines.new.items) }
         ensures sparing { IfSome result
@@ -330,7 +359,8 @@ impl<T: Tree> Journaled<T> {
     {
         let moment = self.moment(reading);
         let ticked = self.record_expiry(reading, &Event::Tick, moment, lines)?;
-        Some(self.look(ticked))
+        let told = self.look(ticked.into_machine_outcome());
+        hand_on(self.alloc(), told)
     }
 
     /// Takes the item that is sent next, if it has this number, and tells whether it has.
@@ -350,11 +380,11 @@ impl<T: Tree> Journaled<T> {
         moment: u64,
         lines: &mut Vec<u8>,
         len: usize,
-    ) -> Option<KeptOutcome>
+    ) -> Option<Came>
         requires moment { moment ≡ event_moment self.old.last reading }
         requires small { moment < moment_bound }
         ensures step { IfSome result
-            (λ outcome. TakesSent number reading self.old outcome self.new) }
+            (λ came. TakesSent number reading self.old came self.new) }
         ensures records { (front : List ℕ) → length front ≡ len
             → lines.old.items ≡ front ++ lines_of moment Take
             → IfSome result (λ _. Records KeepsEntity self.old front self.new lines.new.items) }
@@ -363,26 +393,28 @@ impl<T: Tree> Journaled<T> {
             → IfSome result (λ _. is_next number (swept reading self.old) ≡ false
             → differs self.old self.new ≡ false → lines.new.items ≡ front) }
     {
-        let (ticked, differs) = self.advance(reading, &Event::Tick);
+        let counts = self.counts();
+        let ticked = self.step(reading, &Event::Tick);
+        let differs = self.differs_from(counts);
         if !is_ticked(ticked.outcome) {
             lines.truncate(len);
-            return Some(starved());
+            return Some(Came::starved(0));
         }
         if self.take_numbered(number) {
-            return Some(KeptOutcome::Taken);
+            return Some(Came::taken());
         }
         lines.truncate(len);
         if push_expiry(self.alloc(), lines, moment, differs) {
-            Some(KeptOutcome::Taken)
+            Some(Came::taken())
         } else {
             None
         }
     }
 
     /// What is due goes, and the item of this number is taken, if it is sent next.
-    fn record_sent(&mut self, reading: u64, number: u64, lines: &mut Vec<u8>) -> Option<KeptOutcome>
-        ensures step { IfSome result
-            (λ outcome. TakesSent number reading self.old outcome self.new) }
+    #[inline(never)]
+    fn record_sent(&mut self, reading: u64, number: u64, lines: &mut Vec<u8>) -> Option<Came>
+        ensures step { IfSome result (λ came. TakesSent number reading self.old came self.new) }
         ensures records { IfSome result
             (λ _. Records KeepsEntity self.old lines.old.items self.new lines.new.items) }
         ensures sparing { IfSome result (λ _. is_next number (swept reading self.old) ≡ false
@@ -393,8 +425,26 @@ impl<T: Tree> Journaled<T> {
         if push_taking(self.alloc(), lines, moment) {
             self.record_taking(reading, number, moment, lines, len)
         } else {
-            let starved = self.pass_over(reading, moment, lines)?;
-            Some(KeptOutcome::OfMachine(starved))
+            self.pass_over(reading, moment, lines)?;
+            Some(Came::starved(0))
+        }
+    }
+
+    /// Takes a step for an event. It stands apart, as what most requests give needs less room.
+    #[inline(never)]
+    fn record_ready(&mut self, reading: u64, event: &KeptEvent, lines: &mut Vec<u8>) -> Option<Came>
+        ensures step { IfSome result
+            (λ came. KeptEntityStep reading event.now self.old came self.new) }
+        ensures records { IfSome result
+            (λ _. Records KeepsEntity self.old lines.old.items self.new lines.new.items) }
+        ensures sparing { IfSome result
+            (λ came. spec.may_change_kept reading self.old event.now came self.new ≡ false
+            → differs self.old self.new ≡ false → lines.new.items ≡ lines.old.items) }
+    {
+        match event {
+            KeptEvent::OfMachine(asked) => self.record_event(reading, asked, lines),
+            KeptEvent::Next => self.record_look(reading, lines),
+            KeptEvent::Sent(number) => self.record_sent(reading, *number, lines),
         }
     }
 }
@@ -408,6 +458,7 @@ impl<T: Tree> Recorder for Journaled<T> {
 
     ghost keeps = { KeepsEntity };
 
+    #[inline(always)]
     fn record(&mut self, reading: u64, event: &KeptEvent, lines: &mut Vec<u8>) -> Option<Came>
         ensures step { IfSome result
             (λ outcome. KeptEntityStep reading event.now self.old outcome self.new) }
@@ -420,18 +471,10 @@ impl<T: Tree> Recorder for Journaled<T> {
             → differs self.old self.new ≡ false → lines.new.items ≡ lines.old.items) }
     {
         match event {
-            KeptEvent::OfMachine(asked) => {
-                let outcome = self.record_event(reading, asked, lines)?;
-                hand_outcome_on(self.alloc(), outcome)
+            KeptEvent::OfMachine(asked) if !is_made_ready(asked) => {
+                self.record_unready(reading, asked, lines)
             }
-            KeptEvent::Next => {
-                let told = self.record_look(reading, lines)?;
-                hand_on(self.alloc(), told)
-            }
-            KeptEvent::Sent(number) => {
-                let taken = self.record_sent(reading, *number, lines)?;
-                hand_on(self.alloc(), taken)
-            }
+            _ => self.record_ready(reading, event, lines),
         }
     }
 

@@ -50,6 +50,7 @@ impl<'a, D: Desk<Event = KeptEvent, Outcome = Answer<Came>>> Desk for PlainDesk<
 
     ghost grown_on = { plain_both D.grown D.grown_on };
 
+    #[inline(always)]
     fn ask(&self, seat: &mut D::Seat, reading: u64, event: Event) -> Outcome {
         match self.behind.ask(seat, reading, KeptEvent::OfMachine(event)) {
             Answer::Kept(came) => came.into_machine_outcome(),

@@ -44,6 +44,7 @@ impl<'a, E: Drop, O: Drop, D: Desk<Event = Turn<E>, Outcome = Report<O>>> Desk f
 
     ghost grown_on = { kept_both D.grown D.grown_on };
 
+    #[inline(always)]
     fn ask(&self, seat: &mut D::Seat, reading: u64, event: E) -> Answer<O> {
         match self.desk.ask(seat, reading, Turn::Do(event)) {
             Report::Done {
@@ -61,6 +62,7 @@ impl<'a, E: Drop, O: Drop, D: Desk<Event = Turn<E>, Outcome = Report<O>>> Desk f
 }
 
 /// The outcome, once all that was done is on the disk.
+#[inline(never)]
 fn settle<E: Drop, O: Drop, D: Desk<Event = Turn<E>, Outcome = Report<O>>>(
     desk: &D,
     seat: &mut D::Seat,

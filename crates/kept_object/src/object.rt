@@ -129,6 +129,7 @@ impl<F: KeptFile> KeptObject<(), F> {
 
 impl<O: Recorder, F: NamedFile> KeptObject<O, F> {
     /// The recorder takes a step.
+    #[inline(always)]
     fn take_step(&mut self, reading: u64, event: &O::Event) -> Report<O::Outcome>
         requires { self.old.journal.is_failed ≡ false }
         ensures { OnEvent O.step O.keeps reading event.now self.old result self.new }
@@ -167,6 +168,7 @@ impl<O: Recorder, F: NamedFile> KeptObject<O, F> {
     }
 
     /// Puts what waits behind the text of the journal.
+    #[inline(never)]
     fn settle(&mut self) -> Report<O::Outcome>
         requires { self.old.journal.is_failed ≡ false }
         ensures { OnSettle O.keeps F.tells F.seen F.may_leave F.moment F.left_since
@@ -197,6 +199,7 @@ impl<O: Recorder, F: NamedFile> Object for KeptObject<O, F> {
 
     ghost step = { KeptStep O.step O.keeps F.tells F.seen F.may_leave F.moment F.left_since };
 
+    #[inline(never)]
     fn turn(&mut self, reading: u64, event: &Turn<O::Event>) -> Report<O::Outcome> {
         if self.journal.is_failed() {
             return Report::Failed;

@@ -1,13 +1,12 @@
-use Rattle.std.proofs.Common.{◌≡◌, ℕ, List, length, sym, subst, arith}
-use Rattle.std.specs.Prelude.{IfSome, false}
-use Rattle.entity_model.specs.Entity.{swept}
-use Rattle.cse_machine.specs.Step.{Step}
+use Rattle.std.proofs.Common.{◌≡◌, ℕ, List, length, sym, subst, ◌∙◌, arith}
 use Rattle.cse_machine.specs.declared.event.Event.{Event}
-use Rattle.cse_machine.specs.declared.event.Outcome.{Outcome}
+use Rattle.cse_machine.specs.declared.event.Outcome.TheVariants.{Starved}
+use Rattle.journal_events.specs.Steps.{StepsAsMachine}
+use Rattle.journal_events.specs.declared.event.KeptOutcome.{KeptOutcome}
+use Rattle.journal_events.specs.declared.event.KeptOutcome.TheVariants.{OfMachine}
 use Rattle.kept_object.specs.Records.{Records}
-use Rattle.journaled_entity.specs.Changes.{differs, may_change}
 use Rattle.journaled_entity.specs.Keeping.{KeepsEntity}
-use Rattle.journaled_entity.proofs.KeepLemmas.{on_some, passed_over}
+use Rattle.journaled_entity.proofs.KeepLemmas.{passed_over}
 use Rattle.journaled_entity.proofs.recording.Journaled.record_event.Goals as goal
 
 -- it was written down, or has nothing to be written
@@ -24,24 +23,19 @@ returns-in-Ok-clause-sparing g c =
     c.record_pushed.ensures.sparing old.items size c.in-Ok.ensures.written
 
 -- it can't be written: it is a request
-pub returns-in-Err-clause-step : goal.returns-in-Err-clause-step
-returns-in-Err-clause-step g c =
+pub returns-in_ok-pass_over-in-Err-clause-step : goal.returns-in_ok-pass_over-in-Err-clause-step
+returns-in_ok-pass_over-in-Err-clause-step g c =
     let asked = c.in-Err.ensures.asked in
     let left = c.pass_over.new.self in
-    let P : Event → Type 0 = λ e. IfSome c.pass_over.result (λ (o : Outcome). Step c.args.reading e c.args.self.now o left) in
-    subst P (sym asked.1) (on_some _ _ (λ o only. passed_over c.args.reading o c.args.self.now left asked.0 only) c.pass_over.result c.pass_over.ensures.step)
+    let Q : Event → KeptOutcome → Type 0 = λ e o. StepsAsMachine c.args.reading e c.args.self.now o left in
+    let passed = passed_over c.args.reading (Starved 0) c.args.self.now left asked.0 c.in_ok-pass_over-in-Err.ensures.step in
+    subst (λ (o : KeptOutcome). Q c.args.event.now o) (sym c.starved.ensures) (subst (λ (e : Event). Q e (OfMachine (Starved 0))) (sym asked.1) passed)
 
-pub returns-in-Err-clause-records : goal.returns-in-Err-clause-records
-returns-in-Err-clause-records g c =
+pub returns-in_ok-pass_over-in-Err-clause-records : goal.returns-in_ok-pass_over-in-Err-clause-records
+returns-in_ok-pass_over-in-Err-clause-records g c =
     let left = c.pass_over.new in
-    let P : List ℕ → Type 0 = λ l. IfSome c.pass_over.result (λ (o : Outcome). Records KeepsEntity c.args.self.now l left.self left.lines.items) in
-    subst P c.in-Err.ensures.err c.pass_over.ensures.records
+    let P : List ℕ → Type 0 = λ l. Records KeepsEntity c.args.self.now l left.self left.lines.items in
+    subst P c.in-Err.ensures.err c.in_ok-pass_over-in-Err.ensures.records
 
-pub returns-in-Err-clause-sparing : goal.returns-in-Err-clause-sparing
-returns-in-Err-clause-sparing g c =
-    let left = c.pass_over.new in
-    let same = c.in-Err.ensures.err in
-    let P : List ℕ → Type 0 = λ l. IfSome c.pass_over.result (λ (o : Outcome). differs c.args.self.now left.self ≡ false → left.lines.items ≡ l) in
-    on_some (λ (o : Outcome). differs c.args.self.now left.self ≡ false → left.lines.items ≡ c.args.lines.now.items)
-    (λ (o : Outcome). may_change (swept c.args.reading c.args.self.now) c.args.event.now o left.self ≡ false → differs c.args.self.now left.self ≡ false → left.lines.items ≡ c.args.lines.now.items)
-    (λ o spared none alike. spared alike) c.pass_over.result (subst P same c.pass_over.ensures.sparing)
+pub returns-in_ok-pass_over-in-Err-clause-sparing : goal.returns-in_ok-pass_over-in-Err-clause-sparing
+returns-in_ok-pass_over-in-Err-clause-sparing g c = λ none alike. c.in_ok-pass_over-in-Err.ensures.sparing alike ∙ c.in-Err.ensures.err
