@@ -6,10 +6,10 @@
    the file REFUSE_ROOM/tally. Each child works in a folder of its own below REFUSE_ROOM, named by its number, with a copy
    of REFUSE_FILE as `journal`, REFUSE_INPUT as its input, and `out` and `err`. Its time of day stands still at
    REFUSE_CLOCK seconds; with REFUSE_TICK it goes on by so many with each write to that descriptor, and as somebody
-   writes the number. With REFUSE_LINES a read of its input gives one line, so that what is answered to it is written
-   before the next one. It listens at a port of its own: the one that is named, and its number more. A line of
-   REFUSE_ROOM/results says of each: its number, what waitpid gives, and how many calls were counted and how many
-   refused. */
+   writes the number. With REFUSE_LINES a read of its input gives one line, and with REFUSE_MESSAGES one message of HTTP,
+   so that what is answered to it is written before the next one. It listens at a port of its own: the one that is named,
+   and its number more. A line of REFUSE_ROOM/results says of each: its number, what waitpid gives, and how many calls were
+   counted and how many refused. */
 #define _GNU_SOURCE
 #include <arpa/inet.h>
 #include <errno.h>
@@ -34,7 +34,7 @@ extern void *__libc_memalign(size_t, size_t);
 
 static struct tally { _Atomic uint64_t counted, refused, written, lifted, puts; } *tally;
 static uint64_t at, more, after, until, seconds, tick;
-static int stream, lines;
+static int stream, lines, messages;
 
 static uint64_t number(const char *name, uint64_t without) {
   const char *text = getenv(name);
@@ -71,7 +71,7 @@ __attribute__((constructor)) static void begin(void) {
   uint64_t last = number("REFUSE_LAST", UINT64_MAX);
   after = number("REFUSE_AFTER", 0), until = number("REFUSE_UNTIL", UINT64_MAX), seconds = number("REFUSE_CLOCK", 0);
   more = number("REFUSE_MORE", 0), stream = number("REFUSE_STREAM", 1), tick = number("REFUSE_TICK", 0);
-  lines = number("REFUSE_LINES", 0);
+  lines = number("REFUSE_LINES", 0), messages = number("REFUSE_MESSAGES", 0);
   if (chdir(getenv("REFUSE_ROOM"))) _exit(70);
   int file = open("tally", O_RDWR | O_CREAT, 0600);
   if (file < 0 || ftruncate(file, sizeof *tally)) _exit(70);
@@ -117,12 +117,21 @@ int posix_memalign(void **into, size_t to, size_t size) {
   return 0;
 }
 
+/* How many of these bytes one read gives: those of the line, or of the message, with which they begin, if it is whole. */
+static ssize_t first(const char *from, ssize_t size) {
+  const char *end = lines ? memchr(from, '\n', size) : memmem(from, size, "\r\n\r\n", 4);
+  if (!end) return size;
+  if (lines) return end + 1 - from;
+  const char *length = memmem(from, end - from, "\r\nContent-Length: ", 18);
+  ssize_t whole = end + 4 - from + (length ? strtoll(length + 18, NULL, 10) : 0);
+  return whole < size ? whole : size;
+}
+
 ssize_t read(int file, void *into, size_t size) {
   ssize_t came = syscall(SYS_read, file, into, size);
-  char *end = lines && file == 0 && came > 0 ? memchr(into, '\n', came) : NULL;
-  if (!end) return came;
-  ssize_t line = end + 1 - (char *)into;
-  return syscall(SYS_lseek, file, line - came, SEEK_CUR) < 0 ? -1 : line;
+  if (file != 0 || came <= 0 || (!lines && !messages)) return came;
+  ssize_t some = first(into, came);
+  return some < came && syscall(SYS_lseek, file, some - came, SEEK_CUR) < 0 ? -1 : some;
 }
 
 static ssize_t told(int file, ssize_t written) {
