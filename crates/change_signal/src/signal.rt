@@ -28,7 +28,7 @@ impl ChangeSignal {
         }
     }
 
-    /// Says that something may have changed, and ends the wait at once, or the next one.
+    /// Says that something may have changed, and ends the wait behind its rest, or the next one.
     pub fn raise(&self) {
         self.waiting.unpark();
     }

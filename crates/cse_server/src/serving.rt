@@ -107,8 +107,8 @@ where
 /// off this one; it takes a connection under the door's lock, which it holds for that alone,
 /// attends to it by the binding, and takes the next. The last bench is the sender's, which calls
 /// `send_notes` beside the workers, at a seat of its own, with a tenth of a second at most between
-/// two calls: it is called at once where a request but a Retrieve was answered. It ends when no
-/// worker is left. No worker waits for it, and nothing is sent within a question.
+/// two calls: it is called within 0.2 milliseconds where a request but a Retrieve was answered. It
+/// ends when no worker is left. No worker waits for it, and nothing is sent within a question.
 /// All seats are joined into the one that comes back, with the door, and `send_notes` is called
 /// once more there, with `first`. What a connection or a call of `send_notes` ended with doesn't
 /// change the answer.
