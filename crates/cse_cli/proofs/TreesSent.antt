@@ -7,7 +7,6 @@ use denote.Struct.Field.{Field, u64-field}
 use Rattle.std.proofs.Common.{List, [], ◌∷◌}
 use Rattle.std.proofs.Crossing.{crosses, Vec-send}
 use Rattle.std.proofs.MapsCrossing as maps
-use Rattle.std.specs.contracts.hash.FoldHasher as fold
 use Rattle.desk_replies.proofs.ValuesSent.{text_send, val_send}
 use Rattle.m2m_names.specs.contracts.attributes.Attr as attr
 use Rattle.m2m_names.specs.contracts.types.Ty as ty
@@ -18,8 +17,10 @@ use Rattle.resource_model.specs.contracts.home.Home.TheInside as home_inside
 use Rattle.resource_model.specs.contracts.resource.Moments as moments
 use Rattle.resource_model.specs.contracts.resource.Resource as resource
 use Rattle.resource_model.specs.contracts.resource.Resource.TheInside as resource_inside
-use Rattle.resource_store.specs.contracts.gone.Gone as gone
 use Rattle.resource_store.specs.contracts.seeded.Seeded as seeded
+use Rattle.resource_store.specs.contracts.seeded.SeededHasher as seeded_hasher
+use Rattle.resource_store.specs.contracts.slots.Slot as slot
+use Rattle.resource_store.specs.contracts.slots.Slots as slots
 use Rattle.resource_store.specs.contracts.store.Store as store
 use Rattle.resource_store.specs.contracts.store.Store.TheInside as store_inside
 
@@ -65,18 +66,19 @@ abbrev first_part : List Field → Field
 first_part [] = u64-field
 first_part (F ∷ Fs) = F
 
--- a table that a struct with an invariant keeps is sent as its row
-table_send : IsSend (as_row (first_part store_inside.the_type.parts))
-table_send = as_row_send (first_part store_inside.the_type.parts)
-    (maps.HashMap-send u64 resource.the_row seeded.the_row fold.the_row _ _ _ _ u64_send resource_send hasher_send)
+slot_send : IsSend slot.the_row
+slot_send = declared_send slot.the_type (resource_send, (search (sendable, crosses) depth 20, tt))
 
-gone_send : IsSend gone.the_row
-gone_send =
-    let kept = Vec-send resource.the_row resource_send in
-    declared_send gone.the_type (search (sendable, crosses) depth 20, (search (sendable, crosses, kept) depth 40, (Vec-send _ kept, tt)))
+-- a table that a struct keeps is sent as its row
+table_send : IsSend (as_row (first_part slots.the_type.parts))
+table_send = as_row_send (first_part slots.the_type.parts)
+    (maps.HashMap-send u64 slot.the_row seeded.the_row seeded_hasher.the_row _ _ _ _ u64_send slot_send hasher_send)
+
+slots_send : IsSend slots.the_row
+slots_send = declared_send slots.the_type (table_send, (search (sendable, crosses) depth 20, tt))
 
 store_inside_send : IsSend store_inside.the_row
-store_inside_send = declared_send store_inside.the_type (table_send, (search (sendable, crosses) depth 20, (search (sendable, crosses) depth 20, (gone_send, tt))))
+store_inside_send = declared_send store_inside.the_type (slots_send, (search (sendable, crosses) depth 20, (search (sendable, crosses) depth 20, tt)))
 
 pub store_send : IsSend store.the_row
 store_send = record { owned = λ d vs x. (store_inside_send.owned x.0 vs, tt); leaving = λ k d w. tt }

@@ -1,11 +1,11 @@
 -- A resource below which none stands goes alone.
 use Rattle.std.specs.Prelude.{◌==◌}
-use Rattle.std.proofs.Common.{◌≡◌, ◌≢◌, ℕ, zero, suc, ◌+◌, ◌<◌, List, [], ◌∷◌, ◌++◌, length, get_or, Bool, true, false, cond, not, ◌&&◌, ◌||◌, Option, Some, None, inl, inr, refl, sym, ap, ◌∙◌, arith}
-use Rattle.std.proofs.lemmas.Bool.{cases_Bool, cases_lt, or_cases, eq-eqb, eqb-true, ne_eqb}
+use Rattle.std.proofs.Common.{◌≡◌, ℕ, List, [], ◌∷◌, ◌++◌, Bool, true, false, cond, not, ◌&&◌, ◌||◌, Some, None, inl, inr, refl, sym, ap, ◌∙◌}
+use Rattle.std.proofs.lemmas.Bool.{cases_Bool, or_cases, eq-eqb}
 use Rattle.std.proofs.lemmas.List.Elements.{filter-append}
-use Rattle.std.specs.List.{filter, remove}
+use Rattle.std.specs.List.{filter}
 use Rattle.resource_model.specs.Resource.{ResourceData, has_number}
-use Rattle.tree_model.specs.Tree.{at, has, children_of, is_root, is_tree, is_under, may_stand, stays, without, AreAscending, StandsAt}
+use Rattle.tree_model.specs.Tree.{at, has, children_of, is_root, is_tree, is_under, may_stand, stays, without}
 use Rattle.tree_model.proofs.GrowthLemmas.{growth, has-filter, next_fits, root_parts}
 use Rattle.tree_model.proofs.KeptLemmas.{without-snoc}
 

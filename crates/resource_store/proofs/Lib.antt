@@ -1,3 +1,4 @@
 pub mod StoreLemmas
 pub mod NextLemmas
 pub mod LeafLemmas
+pub mod SeededLemmas

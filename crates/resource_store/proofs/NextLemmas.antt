@@ -1,8 +1,7 @@
 -- The first resource after a number, and those until it.
 use Rattle.std.specs.Prelude.{nat_lt}
-use Rattle.std.proofs.Common.{◌≡◌, ◌≢◌, ◌⊎◌, ℕ, zero, suc, ◌+◌, ◌<◌, ◌≤◌, List, [], ◌∷◌, ◌++◌, append_assoc, sum_by, zero-add, Bool, true, false, Option, Some, None, option_to_list, inl, inr, refl, sym, ap, ◌∙◌, subst, arith}
-use Rattle.std.proofs.lemmas.Bool.{cases_Bool, both_ways, eq-eqb, eqb-true, le-ltb, lt-ltb, ltb-false, ltb-true}
-use Rattle.std.proofs.lemmas.List.{append-nil}
+use Rattle.std.proofs.Common.{◌≡◌, ◌≢◌, ◌⊎◌, ℕ, zero, suc, ◌+◌, ◌<◌, ◌≤◌, List, [], ◌∷◌, ◌++◌, append_assoc, sum_by, zero-add, Bool, true, Option, Some, None, option_to_list, inl, inr, refl, sym, ap, ◌∙◌, arith}
+use Rattle.std.proofs.lemmas.Bool.{cases_Bool, both_ways, eq-eqb, eqb-true, ltb-false, ltb-true}
 use Rattle.std.proofs.lemmas.List.Sums.{sum_by-cons}
 use Rattle.std.proofs.lemmas.Option.{same_Some}
 use Rattle.std.specs.List.{cons_option, filter, filter_map}
@@ -10,7 +9,7 @@ use Rattle.m2m_names.specs.declared.types.Ty.TheVariants.{ContentInstance}
 use Rattle.resource_model.specs.Resource.{ResourceData, has_number}
 use Rattle.tree_model.specs.Tree.{all_after, at, has, instance_size, instances_of, is_kin, is_tree, next_after, numbers_of, sizes_of}
 use Rattle.tree_model.proofs.GrowthLemmas.{zero_lacks}
-use Rattle.tree_model.proofs.OrderLemmas.{above_has, are_above, ascend, ascend_parts, tree_ascends}
+use Rattle.tree_model.proofs.OrderLemmas.{above_has, ascend, ascend_parts, tree_ascends}
 use Rattle.tree_model.proofs.TreeLemmas.{at_has, at_number}
 use Rattle.tree_model.proofs.WalkLemmas.{none_left, step_some}
 

@@ -1,1 +1,3 @@
+pub mod Seeded
+pub mod Slots
 pub mod Store

@@ -4,8 +4,9 @@
 //! To callers a `Store` is the list of its resources in order of creation, in which their numbers
 //! ascend; that it is a tree is its invariant. It keeps them in a table by number, and beside it
 //! the numbers in order. A number whose resource has gone stays in that order for a while; where
-//! more than half of them have gone, they are let go in one pass. What was taken out is freed
-//! later, some at each `push` and `free_some`, so that a removal of many is short. Callers owe the
+//! more than half of them have gone, they are let go in one pass. What was taken out stays in its
+//! slot of the table, unseen, and is freed later, some at each `push` and `free_some`, so that a
+//! removal of many is short. Callers owe the
 //! conditions of `push` and `replace`, and that what is taken out has nothing below it. Only `push`
 //! and `overdue_numbers` fail for want of memory.
 //!
@@ -16,13 +17,12 @@
 //! ```
 #![tactic(auto)]
 
-mod gone;
 mod order;
 mod overdue;
 mod seeded;
 mod sizes;
+mod slots;
 mod store;
-mod written;
 
 pub use overdue::overdue_numbers;
 pub use seeded::{NumberMap, Seeded};

@@ -1,29 +1,25 @@
 //! The numbers of resources in order, among some whose resources have gone.
 ghost use Rattle.std.specs.Prelude.{◌≡◌, ◌≤◌, ◌<◌, [], ◌∷◌, ◌++◌, drop, take, filter, nat_lt};
 ghost use Rattle.std.specs.Prelude.{length, option_map, slice_get, IsTrue, vec_len, vec_capacity};
-ghost use Rattle.std.specs.Prelude.{nat_eq, None};
-ghost use Rattle.std.specs.HashMap.{get};
+ghost use Rattle.std.specs.Prelude.{None};
 ghost use Rattle.tree_model.specs.Tree.{DoAscend};
+ghost use Rattle.resource_store.specs.Slots.{held};
 ghost use Rattle.resource_store.specs.Store.{resources_of, KeepsPresent};
 
-use crate::seeded::NumberMap;
+use crate::slots::Slots;
 use resource_model::Resource;
 
 // So many numbers may have gone before any is let go.
 const FEW: u64 = 64;
 
 /// The resource at place k among those of these numbers, from 0.
-pub(crate) fn nth_of<'a>(
-    resources: &'a NumberMap<Resource>,
-    numbers: &[u64],
-    k: u64,
-) -> Option<&'a Resource>
+pub(crate) fn nth_of<'a>(resources: &'a Slots, numbers: &[u64], k: u64) -> Option<&'a Resource>
     ensures { option_map (λ r. r.now) result
-        ≡ slice_get (resources_of numbers.now resources.now) k }
+        ≡ slice_get (resources_of numbers.now (held resources.now.table)) k }
 {
     let mut left = k;
     for number in numbers {
-        if let Some(resource) = resources.get(number) {
+        if let Some(resource) = resources.get(*number) {
             if left == 0 {
                 return Some(resource);
             }
@@ -64,14 +60,9 @@ pub(crate) fn put_last(order: &mut Vec<u64>, number: u64)
 
 /// Lets numbers go whose resources have gone, where these come last, or are more than half. The
 /// resource of this number went just now, and so many are left.
-pub(crate) fn let_gaps_go(
-    resources: &NumberMap<Resource>,
-    order: &mut Vec<u64>,
-    count: u64,
-    gone: u64,
-)
-    requires { get nat_eq resources.now gone ≡ None }
-    ensures { KeepsPresent resources.now order.old.items order.new.items }
+pub(crate) fn let_gaps_go(resources: &Slots, order: &mut Vec<u64>, count: u64, gone: u64)
+    requires { held resources.now.table gone ≡ None }
+    ensures { KeepsPresent (held resources.now.table) order.old.items order.new.items }
 {
     while lets_last_go(resources, order, count, gone) {}
     if order.len() as u64 > count.saturating_mul(2).saturating_add(FEW) {
@@ -81,14 +72,9 @@ pub(crate) fn let_gaps_go(
 
 // Lets the last number go, where its resource has gone, and says so. Where there are no more numbers
 // than resources, none has.
-fn lets_last_go(
-    resources: &NumberMap<Resource>,
-    order: &mut Vec<u64>,
-    count: u64,
-    gone: u64,
-) -> bool
-    requires { get nat_eq resources.now gone ≡ None }
-    ensures kept { KeepsPresent resources.now order.old.items order.new.items }
+fn lets_last_go(resources: &Slots, order: &mut Vec<u64>, count: u64, gone: u64) -> bool
+    requires { held resources.now.table gone ≡ None }
+    ensures kept { KeepsPresent (held resources.now.table) order.old.items order.new.items }
     ensures less { IsTrue result → length order.new.items < length order.old.items }
 {
     if order.len() as u64 <= count {
@@ -105,15 +91,15 @@ fn lets_last_go(
 }
 
 // Whether the resource of a number has gone, as that of this number has.
-fn has_gone(resources: &NumberMap<Resource>, number: u64, gone: u64) -> bool
-    requires { get nat_eq resources.now gone ≡ None }
-    ensures { IsTrue result → get nat_eq resources.now number ≡ None }
+fn has_gone(resources: &Slots, number: u64, gone: u64) -> bool
+    requires { held resources.now.table gone ≡ None }
+    ensures { IsTrue result → held resources.now.table number ≡ None }
 {
-    number == gone || !resources.contains_key(&number)
+    number == gone || !resources.has(number)
 }
 
-fn let_all_go(resources: &NumberMap<Resource>, order: &mut Vec<u64>)
-    ensures { KeepsPresent resources.now order.old.items order.new.items }
+fn let_all_go(resources: &Slots, order: &mut Vec<u64>)
+    ensures { KeepsPresent (held resources.now.table) order.old.items order.new.items }
 {
-    order.retain(|number| resources.contains_key(number));
+    order.retain(|number| resources.has(*number));
 }

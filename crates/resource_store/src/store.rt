@@ -9,10 +9,9 @@ ghost use Rattle.tree_model.specs.Tree.{at, children_of, due, has, has_counter, 
 ghost use Rattle.tree_model.specs.Tree.{is_tree, may_stand, next_after, recounted_at, replaced};
 ghost use Rattle.tree_model.specs.Tree.{restamped_at, standing, without};
 
-use crate::gone::Gone;
 use crate::order::{let_gaps_go, nth_of, place_after, put_last};
-use crate::seeded::{NumberMap, Seeded};
-use crate::written::{recount_in, restamp_in, write_over};
+use crate::seeded::Seeded;
+use crate::slots::Slots;
 use resource_model::Resource;
 use std::alloc::{AllocError as OutOfMemory, Global};
 use std::marker::Model;
@@ -21,11 +20,10 @@ use tree_model::due_under;
 /// The resources of a tree, in order of their numbers.
 #[derive(Drop)]
 pub struct Store {
-    resources: NumberMap<Resource>,
+    resources: Slots,
     // Their numbers in order, among some whose resources have gone.
     order: Vec<u64>,
     count: u64,
-    gone: Gone,
 }
 
 impl Model for Store {
@@ -33,15 +31,16 @@ impl Model for Store {
     ghost use Rattle.std.specs.Coded.{coded_list};
     ghost use Rattle.resource_model.specs.Resource.{ResourceData};
     ghost use Rattle.resource_model.specs.Codes.{resource_code};
+    ghost use Rattle.resource_store.specs.Slots.{held};
     ghost use Rattle.resource_store.specs.Store.{resources_of, HoldsTree};
 
     ghost Value = { List ResourceData };
 
     ghost coded = { coded_list resource_code };
 
-    ghost view = { λ s. resources_of s.order.items s.resources };
+    ghost view = { λ s. resources_of s.order.items (held s.resources.table) };
 
-    ghost invariant = { λ s. HoldsTree s.order.items s.resources s.count };
+    ghost invariant = { λ s. HoldsTree s.order.items (held s.resources.table) s.count };
 }
 
 impl Store {
@@ -50,10 +49,9 @@ impl Store {
         ensures { result ≡ [] }
     {
         Store {
-            resources: NumberMap::with_hasher(alloc, seeded),
+            resources: Slots::new(alloc, seeded),
             order: Vec::new(alloc),
             count: 0,
-            gone: Gone::none(alloc),
         }
     }
 
@@ -83,7 +81,7 @@ impl Store {
             → IfSome result (λ r. slice_get self.now k ≡ Some r.now) }
     {
         let number = self.order.last()?;
-        self.resources.get(number)
+        self.resources.get(*number)
     }
 
     /// The first resource whose number is greater than this one.
@@ -107,14 +105,14 @@ impl Store {
         ensures value { option_map (λ r. r.now) result ≡ at number self.now }
         ensures tree { IsTrue (is_tree self.now) }
     {
-        self.resources.get(&number)
+        self.resources.get(number)
     }
 
     /// Whether there is a resource of a number.
     pub fn has(&self, number: u64) -> bool
         ensures { result ≡ has number self.now }
     {
-        self.resources.contains_key(&number)
+        self.resources.has(number)
     }
 
     /// When a resource is due whose parent stands there.
@@ -133,13 +131,11 @@ impl Store {
         ensures back { IfErr result (λ e. e.0 ≡ resource) }
     {
         let number = resource.number();
-        self.gone.free_some();
+        self.resources.free_some();
         if let Err(_) = self.order.reserve(1) {
             return Err((resource, OutOfMemory));
         }
-        if let Err(refused) = self.resources.insert(number, resource) {
-            return Err((refused.value.1, OutOfMemory));
-        }
+        self.resources.insert(resource)?;
         put_last(&mut self.order, number);
         self.count += 1;
         Ok(())
@@ -151,7 +147,7 @@ impl Store {
         requires { option_map standing (at resource.number self.old) ≡ Some (standing resource) }
         ensures { self.new ≡ replaced resource self.old }
     {
-        write_over(&mut self.resources, resource)
+        self.resources.write_over(resource)
     }
 
     /// Sets the moment of the last change and the state tag of a resource that has one, in place.
@@ -161,7 +157,7 @@ impl Store {
         requires st { st < count_bound }
         ensures { self.new ≡ restamped_at number lt st self.old }
     {
-        restamp_in(&mut self.resources, number, lt, st)
+        self.resources.restamp(number, lt, st)
     }
 
     /// Sets how many notifications are left to a subscription that counts them, in place.
@@ -170,7 +166,7 @@ impl Store {
         requires left { left < count_bound }
         ensures { self.new ≡ recounted_at number left self.old }
     {
-        recount_in(&mut self.resources, number, left)
+        self.resources.recount(number, left)
     }
 
     /// Takes out the resource of a number, below which none stands. Its memory is given back later
@@ -179,8 +175,7 @@ impl Store {
         requires { children_of number self.old ≡ [] }
         ensures { self.new ≡ without (has_number number) self.old }
     {
-        if let Some(resource) = self.resources.remove(&number) {
-            self.gone.keep(resource);
+        if self.resources.take_out(number) {
             self.count -= 1;
             let_gaps_go(&self.resources, &mut self.order, self.count, number);
         }
@@ -190,6 +185,6 @@ impl Store {
     pub fn free_some(&mut self)
         ensures { self.new ≡ self.old }
     {
-        self.gone.free_some()
+        self.resources.free_some()
     }
 }

@@ -1,4 +1,4 @@
-use Rattle.std.proofs.Common.{◌≡◌, ◌<◌, ◌+◌, ap, sym, ◌∙◌, arith, zero-add}
+use Rattle.std.proofs.Common.{◌<◌, ap, sym, ◌∙◌, arith, zero-add}
 use Rattle.tree_model.specs.Tree.{sizes_of}
 use Rattle.tree_model.proofs.WalkLemmas.{all_after_zero}
 use Rattle.resource_store.proofs.NextLemmas.{next_above, sizes_end, sizes_turn}

@@ -1,8 +1,9 @@
 use Rattle.std.specs.Prelude.{nat_lt}
-use Rattle.std.proofs.Common.{◌≡◌, ◌∙◌, ◌≤◌, ◌-◌, ℕ, List, ap, drop, take, length, arith, rules}
+use Rattle.std.proofs.Common.{◌≡◌, ◌∙◌, ◌-◌, ℕ, List, ap, drop, take, length, arith, rules}
 use Rattle.std.proofs.lemmas.List.{length-drop, take_all}
 use Rattle.std.specs.List.{filter, slice_get}
 use Rattle.tree_model.specs.Tree.{next_after}
+use Rattle.resource_store.specs.Slots.{held}
 use Rattle.resource_store.specs.Store.{resources_of}
 use Rattle.resource_store.proofs.StoreLemmas.{after_at}
 use Rattle.resource_store.proofs.store.Store.after.Goals as goal
@@ -10,7 +11,7 @@ use Rattle.resource_store.proofs.store.Store.after.Goals as goal
 pub returns-clause-value : goal.returns-clause-value
 returns-clause-value c =
     let order = c.self.inside.order.items in
-    let m = c.self.inside.resources in
+    let m = (held c.self.inside.resources.table) in
     let place = c.place_after-place.result in
     let later : drop place order ≡ filter (nat_lt c.args.number) order = search rules in
     let cut : take (length order - place) (drop place order) ≡ drop place order = take_all (length order - place) (drop place order) (let size : length (drop place order) ≡ length order - place = length-drop place order in omega arith) in
