@@ -1,7 +1,8 @@
 -- Numbers that ascend.
 use Rattle.std.specs.Prelude.{nat_lt}
-use Rattle.std.proofs.Common.{◌≡◌, ◌≢◌, ◌==◌, ℕ, zero, suc, ◌<◌, List, [], ◌∷◌, ◌++◌, length, get_or, Bool, true, false, not, Some, Err, Less, Equal, cond, inl, inr, refl, sym, ap, ◌∙◌, subst, arith}
+use Rattle.std.proofs.Common.{◌≡◌, ◌≢◌, ◌==◌, ℕ, zero, suc, ◌<◌, ◌≤◌, List, [], ◌∷◌, ◌++◌, length, take, get_or, Bool, true, false, not, Some, Err, Less, Equal, cond, inl, inr, refl, sym, ap, ◌∙◌, subst, arith}
 use Rattle.std.proofs.lemmas.Bool.{cases_lt, and_parts, eq-eqb, ne_eqb}
+use Rattle.std.proofs.lemmas.List.{append-nil, drop_all}
 use Rattle.std.proofs.lemmas.List.Kept.{IsStrictlySortedBy-filter}
 use Rattle.std.proofs.lemmas.Map.Keys.{below_from_sorted}
 use Rattle.std.proofs.lemmas.Option.{get_or_from_slice_get, slice_get-get_or, slice_get_within}
@@ -79,6 +80,14 @@ placed_out n numbers i sorted there =
     let within : i < length numbers = slice_get_within numbers i n there in
     let is : (d : ℕ) → get_or numbers i d ≡ n = λ d. get_or_from_slice_get numbers i n d there in
     taken_out n numbers i within (λ k d inside other. apart_from numbers n i k d sorted within (is d) inside other) is
+
+-- the last is taken out
+pub last_out : (n : ℕ) (numbers : List ℕ) (i k : ℕ) → DoAscend numbers → slice_get numbers i ≡ Some n → (k ≡ i) × (length numbers ≤ suc i) → take k numbers ≡ without_number n numbers
+last_out n numbers i k sorted there ends =
+    ap (λ j. take j numbers) ends.0
+    ∙ sym (append-nil (take i numbers))
+    ∙ ap (λ (ns : List ℕ). take i numbers ++ ns) (sym (drop_all (suc i) numbers ends.1))
+    ∙ placed_out n numbers i sorted there
 
 -- where a search found none, nothing is taken out
 pub not_found : (n : ℕ) (ks : List ℕ) (i : ℕ) → DoAscend ks → IsBinarySearchResult (λ k. nat_cmp k n) ks (Err i) → ks ≡ without_number n ks

@@ -59,24 +59,25 @@ impl Queue {
         Ok(())
     }
 
-    /// Takes a number out, where it is there.
+    /// Takes a number out, where it is there. Where many go at once, most are the last.
     pub fn remove(&mut self, number: u64)
         ensures { self.new ≡ without_number number self.old }
     {
+        let last = self.numbers.len().saturating_sub(1);
+        if self.is_at(last, number) {
+            let _last = self.numbers.pop_back();
+            return;
+        }
         if let Some(at) = self.place_of(number) {
             let _gone = self.numbers.remove(at);
         }
     }
 
-    // Where a number stands. Most that go stand at one of the ends, so these are tried first.
+    // Where a number stands. Most that go alone stand at the front, so that is tried first.
     fn place_of(&self, number: u64) -> Option<usize>
         ensures { MatchOption result (without_number number self.now ≡ self.now)
             (λ at. slice_get self.now at ≡ Some number) }
     {
-        let last = self.numbers.len().saturating_sub(1);
-        if self.is_at(last, number) {
-            return Some(last);
-        }
         if self.is_at(0, number) {
             return Some(0);
         }
