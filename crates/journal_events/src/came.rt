@@ -153,7 +153,7 @@ impl Came {
         ensures { result ≡ machine_outcome self }
     {
         match self.form {
-            // What stands in a box is taken out where a whole outcome has room; a reply needs less.
+            // It returns here, so that a reply isn't moved through the room of a whole outcome.
             CameForm::Replied(reply) => return Outcome::Done(reply),
             CameForm::Starved(done) => Outcome::Starved { done },
             CameForm::Ticked => Outcome::Ticked,

@@ -1,6 +1,6 @@
 -- What may not have changed more than an expiry does.
-use Rattle.std.proofs.Common.{◌≡◌, ◌⊎◌, inl, inr, ⊎_elim, ℕ, zero, suc, Bool, true, false, not, List, [], ◌∷◌, refl, sym, ◌∙◌, ap, subst, arith, length, ◌<◌}
-use Rattle.std.specs.Prelude.{◌&&◌, ◌||◌, Option, Some, None, find, option_map}
+use Rattle.std.proofs.Common.{◌≡◌, ◌⊎◌, inl, inr, ⊎_elim, ℕ, zero, suc, Bool, true, false, List, [], ◌∷◌, refl, sym, ◌∙◌, ap, subst, arith, length, ◌<◌, ◌≤◌}
+use Rattle.std.specs.Prelude.{Option, Some, None, find, option_map}
 use Rattle.std.proofs.lemmas.Bool.{cases_Bool, true≢false}
 use Rattle.std.proofs.lemmas.Bool.Decides.{Decides-ltb}
 use Rattle.std.proofs.lemmas.Option.{none-some}
@@ -14,9 +14,10 @@ use Rattle.primitive_json.specs.declared.request.RequestParts.{RequestParts}
 use Rattle.notify_outbox.specs.Items.{is_to_send, waits_for}
 use Rattle.notify_outbox.specs.Outbox.{without_first}
 use Rattle.notify_outbox.specs.declared.item.Item.{Item}
-use Rattle.entity_model.specs.Entity.{EntityData, swept, without_next}
+use Rattle.entity_model.specs.Entity.{EntityData, cut, swept, without_next}
+use Rattle.entity_model.specs.Sound.{IsSoundEntity}
+use Rattle.entity_model.proofs.TellingLemmas.{swept_still}
 use Rattle.entity_model.specs.Places.{Effect}
-use Rattle.cse_machine.specs.Answer.{effect_of}
 use Rattle.cse_machine.specs.Step.{Step}
 use Rattle.cse_machine.specs.declared.event.Event.{Event}
 use Rattle.cse_machine.specs.declared.event.Event.TheVariants.{Ask, Take, Tick}
@@ -30,7 +31,7 @@ use Rattle.guard_laws.proofs.HistoryLemmas.{done_holds, done_keeps, onward_leave
 use Rattle.guard_laws.proofs.MemberLemmas.{of_member}
 use Rattle.guard_laws.proofs.WayLemmas.{member_addresses}
 use Rattle.cse_machine.specs.Step.{has_fewer_items}
-use Rattle.journaled_entity.specs.Changes.{is_cut_short, may_change}
+use Rattle.journaled_entity.specs.Changes.{is_cut_short, may_change, reads_alone}
 
 -- ---- a Retrieve
 
@@ -156,3 +157,45 @@ expiry_alone reading Tick (Forward poa onward) before after step short none = ab
 expiry_alone reading Tick (Given given) before after step short none = absurd step
 expiry_alone reading Tick Ticked before after step short none = inl step
 expiry_alone reading Tick (Starved done) before after step short none = starved_over reading before after Tick done step short
+
+-- ---- a moment that stands still
+
+-- a reply takes no item of the outbox
+abbrev pub KeepsItems : EntityData → Outcome → EntityData → Type 0
+KeepsItems before outcome after = (reply : ReplyParts) → outcome ≡ Done reply → length before.items ≤ length after.items
+
+none_fewer : (before after : EntityData) → length before.items ≤ length after.items → has_fewer_items before after ≡ false
+none_fewer before after kept = elim (cases_Bool (has_fewer_items before after)) [
+  | inl fewer ↦
+      let less : length after.items < length before.items = (Decides-ltb (length after.items) (length before.items)).0 fewer in
+      let wrong : ⊥ = omega (arith, less, kept) in
+      absurd wrong
+  | inr many ↦ many
+]
+
+-- what reads alone, and takes no item, changes no more than an expiry does
+quiet_read : (reading : ℕ) (event : Event) (outcome : Outcome) (before after : EntityData) → reads_alone event ≡ true
+    → Step reading event before outcome after → KeepsItems (swept reading before) outcome after → may_change (swept reading before) event outcome after ≡ false
+quiet_read reading (Ask request) (Done reply) before after reads step kept = elim (cases_Bool (is_success reply.rsc)) [
+  | inl served ↦
+      let is : retrieves request.op ≡ true = reads in
+      let whole : may_change (swept reading before) (Ask request) (Done reply) after ≡ has_fewer_items (swept reading before) after = rw (served, is) refl in
+      whole ∙ none_fewer (swept reading before) after (kept reply refl)
+  | inr refused ↦
+      let none : may_change (swept reading before) (Ask request) (Done reply) after ≡ false = rw refused refl in
+      none
+]
+quiet_read reading (Ask request) (Forward poa onward) before after reads step kept = refl
+quiet_read reading (Ask request) (Given given) before after reads step kept = absurd step
+quiet_read reading (Ask request) Ticked before after reads step kept = absurd step
+quiet_read reading (Ask request) (Starved done) before after reads step kept = refl
+quiet_read reading Take outcome before after reads step kept = absurd (true≢false (sym reads))
+quiet_read reading Tick outcome before after reads step kept = refl
+
+-- and where the moment stands still, it leaves the entity as it was
+pub still_alone : (reading : ℕ) (event : Event) (outcome : Outcome) (before after : EntityData) → IsSoundEntity before → cut reading ≤ before.last
+    → reads_alone event ≡ true → Step reading event before outcome after → is_cut_short outcome ≡ false → KeepsItems before outcome after → after ≡ before
+still_alone reading event outcome before after sound still reads step short kept =
+    let same = swept_still reading before sound still in
+    let keeps : KeepsItems (swept reading before) outcome after = subst (λ (e : EntityData). KeepsItems e outcome after) (sym same) kept in
+    ⊎_elim (λ left. left ∙ same) (λ left. left) (expiry_alone reading event outcome before after step short (quiet_read reading event outcome before after reads step keeps))

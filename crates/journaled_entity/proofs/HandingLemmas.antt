@@ -1,5 +1,5 @@
 -- What came of an event, as it is handed on.
-use Rattle.std.proofs.Common.{◌≡◌, ◌⊎◌, inl, inr, ℕ, Bool, true, false, refl, sym, ◌∙◌, ap, subst}
+use Rattle.std.proofs.Common.{◌≡◌, inl, inr, ℕ, true, false, refl, sym, ◌∙◌, ap, subst}
 use Rattle.std.specs.Prelude.{Option, Some, None, IfSome}
 use Rattle.std.proofs.lemmas.Bool.{true≢false}
 use Rattle.entity_model.specs.Entity.{EntityData, swept}
@@ -17,7 +17,7 @@ use Rattle.journal_events.specs.declared.event.KeptEvent.TheVariants as events
 use Rattle.journal_events.specs.declared.event.KeptOutcome.{KeptOutcome}
 use Rattle.journal_events.specs.declared.event.KeptOutcome.TheVariants as outcomes
 use Rattle.journaled_entity.specs.Changes.{machine_may_change, may_change}
-use Rattle.journaled_entity.specs.Handing.{IsHandedOn, IsMachineHandedOn, IsToldOrStarved, goes_on}
+use Rattle.journaled_entity.specs.Handing.{IsHandedOn, IsMachineHandedOn, goes_on}
 
 -- what holds whatever came holds of what came
 pub on_any : {A : Type 0} (P : Type 0) → P → (o : Option A) → IfSome o (λ _. P)

@@ -1,5 +1,5 @@
 -- No event takes an item from the outbox but the one that it gives away.
-use Rattle.std.proofs.Common.{◌≡◌, ◌⊎◌, inl, inr, ⊎_elim, ℕ, List, [], ◌∷◌, ◌++◌, take, sym, ◌∙◌, ap, subst}
+use Rattle.std.proofs.Common.{◌≡◌, ◌⊎◌, inl, inr, ⊎_elim, ℕ, List, [], ◌∷◌, take, sym, ◌∙◌, ap, subst}
 use Rattle.std.specs.Prelude.{Contains, IsTrue, Option, Some, None, option_map}
 use Rattle.std.specs.Option.{option_map_or}
 use Rattle.m2m_names.specs.declared.codes.Rsc.{Rsc}
@@ -11,7 +11,6 @@ use Rattle.primitive_json.specs.declared.note.NoteParts.{NoteParts}
 use Rattle.primitive_json.specs.declared.request.RequestParts.{RequestParts}
 use Rattle.resource_model.specs.Resource.{ResourceData}
 use Rattle.notify_outbox.specs.Items.{is_to_send, still_waits, waits_for}
-use Rattle.notify_outbox.specs.Outbox.{without_first}
 use Rattle.notify_outbox.specs.declared.item.Item.{Item}
 use Rattle.entity_model.specs.Entity.{EntityData, event_moment, swept}
 use Rattle.entity_model.specs.Places.{Effect, refused}

@@ -1,11 +1,11 @@
 -- What is written down keeps the entity.
-use Rattle.std.proofs.Common.{◌≡◌, ◌⊎◌, inl, inr, ⊎_elim, ℕ, ◌+◌, ◌<◌, ◌≤◌, min, max, Bool, true, false, List, [], ◌∷◌, ◌++◌, length, take, refl, sym, ◌∙◌, ap, subst, arith}
-use Rattle.std.specs.Prelude.{◌==◌, not, ◌||◌, Option, Some, None, IfSome, Result, Ok, Err, OnErr}
+use Rattle.std.proofs.Common.{◌≡◌, ◌⊎◌, inl, inr, ⊎_elim, ℕ, ◌+◌, ◌<◌, ◌≤◌, true, false, List, [], ◌∷◌, ◌++◌, length, take, refl, sym, ◌∙◌, ap, subst, arith}
+use Rattle.std.specs.Prelude.{Option, Some, None, IfSome, Result, Ok, Err, OnErr}
 use Rattle.std.proofs.lemmas.Bool.{cases_Bool, true≢false}
 use Rattle.std.proofs.lemmas.List.{append-nil, take_at}
 use Rattle.primitive_json.specs.declared.request.RequestParts.{RequestParts}
 use Rattle.resource_model.specs.Home.{HomeData}
-use Rattle.entity_model.specs.Entity.{EntityData, cut, event_moment, expired_told, last_reading, swept, without_next}
+use Rattle.entity_model.specs.Entity.{EntityData, event_moment, expired_told, last_reading, swept, without_next}
 use Rattle.entity_model.specs.Sound.{IsSoundEntity}
 use Rattle.cse_machine.specs.Answer.{effect_of}
 use Rattle.cse_machine.specs.Step.{Step}
@@ -21,7 +21,7 @@ use Rattle.journal_lines.specs.declared.deed.Deed.TheVariants as deeds
 use Rattle.journal_events.specs.Kept.{ChangesTheMomentAlone, at_moment}
 use Rattle.journal_events.proofs.KeptLemmas.{swept_again}
 use Rattle.journal_events.proofs.QuietLemmas.{quiet}
-use Rattle.journal_opening.specs.Journals.{Makes, done_at, event_deed, made_of}
+use Rattle.journal_opening.specs.Journals.{Makes, done_at, event_deed}
 use Rattle.journal_opening.proofs.JournalLemmas.{deed_alone_is_batch, journal_grows, snapshot_opens}
 use Rattle.kept_object.specs.Records.{IsKeptAtRest, Records}
 use Rattle.journal_opening.specs.Snapshots.{IsSnapshot}
@@ -117,6 +117,10 @@ quiet_recorded before after lines quiet =
         same = quiet_on kept.made before after kept.same quiet;
       });
     }
+
+-- nothing at all
+pub same_recorded : (before after : EntityData) (lines : List ℕ) → after ≡ before → Records KeepsEntity before lines after lines
+same_recorded before after lines same = quiet_recorded before after lines (subst (ChangesTheMomentAlone before) (sym same) (unchanged before))
 
 -- ---- a snapshot
 

@@ -1,12 +1,11 @@
 -- A journal that was opened is at rest.
-use Rattle.std.proofs.Common.{◌≡◌, ⊎_elim, ℕ, ◌≤◌, false, List, [], ◌∷◌, ◌++◌, length, take, refl, sym, ◌∙◌, ap, subst, arith}
+use Rattle.std.proofs.Common.{◌≡◌, ℕ, false, List, [], ◌∷◌, length, take, refl, sym, ◌∙◌, ap, subst, arith}
 use Rattle.std.proofs.lemmas.List.{length-take-le, take_at}
 use Rattle.resource_model.specs.Home.{HomeData}
 use Rattle.entity_model.specs.Entity.{EntityData}
 use Rattle.kept_file.specs.Crashes.{LeavesOnly, LeavesThis}
 use Rattle.journal_file.specs.Gates.{IsSettled, KeepsText, at_rest, text_of}
 use Rattle.journal_file.specs.declared.journal.Journal.{Journal}
-use Rattle.journal_events.specs.Kept.{ChangesTheMomentAlone}
 use Rattle.journal_opening.specs.Journals.{Makes}
 use Rattle.journal_opening.specs.Opening.{OpensAs, StaysAsItWas}
 use Rattle.journal_opening.proofs.HomeLemmas.{made_at_home}

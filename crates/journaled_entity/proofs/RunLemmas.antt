@@ -1,5 +1,5 @@
 -- No item is lost in a run of turns.
-use Rattle.std.proofs.Common.{◌≡◌, ◌⊎◌, inl, inr, ⊎_elim, ℕ, ◌+◌, ◌<◌, ◌≤◌, Bool, true, false, List, [], ◌∷◌, sym, ◌∙◌, ap, subst, arith}
+use Rattle.std.proofs.Common.{◌≡◌, ◌⊎◌, inl, inr, ⊎_elim, ℕ, ◌+◌, ◌<◌, ◌≤◌, true, false, List, [], ◌∷◌, sym, ◌∙◌, ap, subst, arith}
 use Rattle.std.specs.Prelude.{Contains, IsTrue}
 use Rattle.std.proofs.lemmas.Bool.{cases_Bool, true≢false}
 use Rattle.std.proofs.lemmas.Bool.Decides.{Decides-ltb}
@@ -12,8 +12,7 @@ use Rattle.kept_object.specs.State.{KeptData}
 use Rattle.kept_object.specs.Steps.{KeptStep, OnTurn}
 use Rattle.notify_outbox.specs.Items.{keeping_time, still_waits}
 use Rattle.notify_outbox.specs.declared.item.Item.{Item}
-use Rattle.entity_model.specs.Entity.{EntityData, event_moment}
-use Rattle.cse_machine.specs.Step.{IsUnswept}
+use Rattle.entity_model.specs.Entity.{EntityData}
 use Rattle.guard_laws.specs.Guard.{IsSameEntity}
 use Rattle.guard_laws.proofs.HistoryLemmas.{same_entity}
 use Rattle.journal_events.specs.Machine.{machine_event}

@@ -5,6 +5,7 @@ use Rattle.cse_machine.specs.declared.event.Outcome.{Outcome}
 use Rattle.cse_machine.specs.declared.event.Outcome.TheVariants as of
 use Rattle.journal_events.specs.declared.event.KeptOutcome.{KeptOutcome}
 use Rattle.journal_events.specs.declared.event.KeptOutcome.TheVariants.{OfMachine, Next, Taken}
+use Rattle.journaled_entity.specs.Changes.{is_cut_short}
 
 -- the request goes on to another CSE, and nothing was done here
 abbrev pub goes_on : Outcome → Bool
@@ -26,6 +27,11 @@ IsStarved came = came ≡ OfMachine (of.Starved 0)
 abbrev pub IsMachineHandedOn : Outcome → KeptOutcome → Type 0
 IsMachineHandedOn outcome came =
     (came ≡ OfMachine outcome) ⊎ ((goes_on outcome ≡ true) × IsStarved came)
+
+-- It is handed on as an outcome is, which isn't that memory ran out when members of a fan-out had
+-- been served.
+abbrev pub IsUncutHandedOn : Outcome → KeptOutcome → Type 0
+IsUncutHandedOn outcome came = (is_cut_short outcome ≡ false) × IsMachineHandedOn outcome came
 
 -- It is what was told; or that memory ran out.
 abbrev pub IsToldOrStarved : KeptOutcome → KeptOutcome → Type 0

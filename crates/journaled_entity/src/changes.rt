@@ -7,6 +7,16 @@ use cse_machine::{Event, ObservedStep, Outcome};
 use m2m_names::Rsc;
 use primitive_json::{Request, retrieves};
 
+/// Whether memory ran out when members of a fan-out had been served.
+pub(crate) fn is_cut_short(outcome: &Outcome) -> bool
+    ensures { result ≡ spec.is_cut_short outcome.now }
+{
+    match outcome {
+        Outcome::Starved { done } => *done > 0,
+        _ => false,
+    }
+}
+
 /// Whether the status says that a request was served.
 fn is_success(rsc: Rsc) -> bool
     ensures { result ≡ status.is_success rsc }

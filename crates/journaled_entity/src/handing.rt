@@ -2,6 +2,7 @@
 ghost use Rattle.std.specs.Prelude.{◌≡◌, IfSome};
 ghost use Rattle.journaled_entity.specs.Handing as spec;
 
+use crate::changes::is_cut_short;
 use cse_machine::{ObservedStep, Outcome};
 use journal_events::{Came, KeptOutcome};
 use notify_outbox::Item;
@@ -33,8 +34,8 @@ fn hand_outcome_on(alloc: Global, outcome: Outcome) -> Option<Came>
     }
 }
 
-/// What came of a step that was observed, to be handed on as an outcome is. A reply is taken from
-/// where it stands: an outcome has many bytes more.
+/// What came of a step that was observed, to be handed on as by `hand_outcome_on`. A reply is moved
+/// alone here, and not the whole outcome, which has many more bytes.
 #[inline(always)]
 pub(crate) fn hand_observed_on(alloc: Global, observed: ObservedStep) -> Option<Came>
     ensures { IfSome result (spec.IsMachineHandedOn observed.outcome) }
@@ -43,6 +44,18 @@ pub(crate) fn hand_observed_on(alloc: Global, observed: ObservedStep) -> Option<
         Outcome::Done(reply) => Some(Came::of_reply(reply)),
         other => hand_outcome_on(alloc, other),
     }
+}
+
+/// What came of a step that gave no reply, to be handed on as an outcome is. None where memory ran
+/// out when members of a fan-out had been served.
+#[inline(never)]
+pub(crate) fn hand_unserved_on(alloc: Global, outcome: Outcome) -> Option<Came>
+    ensures { IfSome result (spec.IsUncutHandedOn outcome) }
+{
+    if is_cut_short(&outcome) {
+        return None;
+    }
+    hand_outcome_on(alloc, outcome)
 }
 
 /// The item that is sent next, to be handed on; or that memory ran out.

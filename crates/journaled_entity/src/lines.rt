@@ -1,10 +1,12 @@
 //! The lines of an event.
-ghost use Rattle.std.specs.Prelude.{◌≡◌, ◌<◌, ◌++◌, true, false, IfOk, OnErr, IsErr};
+ghost use Rattle.std.specs.Prelude.{◌≡◌, ◌<◌, ◌++◌, true, false, IfOk, OnErr};
 ghost use Rattle.journal_lines.specs.Lines.{IsReadBack, lines_of, moment_bound};
 ghost use Rattle.journal_lines.specs.declared.deed.Deed.TheVariants.{Ask};
 ghost use Rattle.journal_opening.specs.Journals.{event_deed};
+ghost use Rattle.primitive_json.specs.Members.{retrieves as is_retrieve};
 ghost use Rattle.primitive_json.specs.declared.request.RequestParts.{RequestParts};
 ghost use Rattle.cse_machine.specs.declared.event.Event.TheVariants as events;
+ghost use Rattle.journaled_entity.specs.Changes.{reads_alone};
 ghost use Rattle.journaled_entity.specs.Written.{pushed};
 
 use cse_machine::Event;
@@ -14,12 +16,16 @@ use std::alloc::Global;
 
 /// Whether the lines of the request are made ready before it is done. They aren't for a Retrieve
 /// whose address is that of no poll point, which takes nothing.
-fn is_asking_made_ready(request: &Request) -> bool {
+fn is_asking_made_ready(request: &Request) -> bool
+    ensures { result ≡ false → is_retrieve request.now.op ≡ true }
+{
     !retrieves(request.parts().op) || matches!(request.parts().to.entries(), [.., b'p', b'c', b'u'])
 }
 
 /// Whether the lines of the event are made ready before it is done. An expiry has none of its own.
-pub(crate) fn is_made_ready(event: &Event) -> bool {
+pub(crate) fn is_made_ready(event: &Event) -> bool
+    ensures { result ≡ false → reads_alone event.now ≡ true }
+{
     match event {
         Event::Ask(request) => is_asking_made_ready(request),
         Event::Take => true,

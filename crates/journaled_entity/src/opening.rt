@@ -1,5 +1,5 @@
 //! An entity that is kept is opened at its journal.
-ghost use Rattle.std.specs.Prelude.{◌≡◌, ◌≢◌, ℕ, [], List, length, IfErr, IfOk, MatchResult};
+ghost use Rattle.std.specs.Prelude.{◌≡◌, ◌≢◌, ℕ, [], List, IfErr, IfOk, MatchResult};
 ghost use Rattle.entity_model.specs.Entity.{EntityData};
 ghost use Rattle.journal_file.specs.Gates.{KeepsText};
 ghost use Rattle.journal_lines.specs.declared.deed.Dated.{Dated};

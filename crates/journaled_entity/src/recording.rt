@@ -1,7 +1,7 @@
 //! An entity that writes down what it does.
-ghost use Rattle.std.specs.Prelude.{◌≡◌, ◌<◌, ◌++◌, List, ℕ, length, IfOk, IfSome, OnErr, true};
+ghost use Rattle.std.specs.Prelude.{◌≡◌, ◌<◌, ◌≤◌, ◌++◌, List, ℕ, length, IfOk, IfSome, OnErr, true};
 ghost use Rattle.std.specs.Prelude.{false};
-ghost use Rattle.entity_model.specs.Entity.{EntityData, event_moment, swept};
+ghost use Rattle.entity_model.specs.Entity.{EntityData, cut, event_moment, swept};
 ghost use Rattle.entity_model.specs.Sound.{IsSoundEntity};
 ghost use Rattle.cse_machine.specs.Step as steps;
 ghost use Rattle.cse_machine.specs.Step.{Step};
@@ -15,21 +15,22 @@ ghost use Rattle.journal_opening.specs.Journals.{event_deed};
 ghost use Rattle.kept_object.specs.Records.{Records};
 ghost use Rattle.journal_lines.specs.declared.deed.Deed.TheVariants.{Take};
 ghost use Rattle.journaled_entity.specs.Changes as spec;
-ghost use Rattle.journaled_entity.specs.Changes.{differs, is_cut_short, is_ticked};
-ghost use Rattle.journaled_entity.specs.Changes.{machine_may_change};
+ghost use Rattle.journaled_entity.specs.Changes.{differs, is_ticked};
+ghost use Rattle.journaled_entity.specs.Changes.{machine_may_change, reads_alone};
 ghost use Rattle.journaled_entity.specs.Keeping.{KeepsEntity};
 ghost use Rattle.journaled_entity.specs.Written.{pushed};
 
-use crate::changes::may_change;
-use crate::handing::{hand_observed_on, hand_on};
+use crate::changes::{is_cut_short, may_change};
+use crate::handing::{hand_observed_on, hand_on, hand_unserved_on};
 use crate::lines::{is_made_ready, push_event, push_expiry, push_taking};
 use crate::sending::{copied_next, take_numbered};
-use cse_machine::{Event, ObservedStep, Outcome, observe_step};
+use cse_machine::{Event, ObservedStep, Outcome, observe_step, step};
 use entity_model::{Entity, event_moment};
 use journal_events::{Came, KeptEvent, KeptOutcome};
 use journal_opening::snapshot_bytes;
 use kept_object::Recorder;
 use notify_outbox::Item;
+use primitive_json::Reply;
 use std::alloc::{AllocError as OutOfMemory, Global};
 use std::marker::Model;
 use tree_model::Tree;
@@ -62,6 +63,14 @@ fn counts<T: Tree>(entity: &Entity<T>) -> (u64, u64)
     (entity.tree.len(), entity.outbox.len())
 }
 
+/// How many items there are.
+fn items_of<T: Tree>(entity: &Entity<T>) -> u64
+    ensures items { result ≡ length entity.now.items }
+    ensures sound { IsSoundEntity entity.now }
+{
+    entity.outbox.len()
+}
+
 /// The moment of an event at a reading of the clock.
 fn moment_of<T: Tree>(entity: &Entity<T>, reading: u64) -> u64
     ensures value { result ≡ event_moment entity.now.last reading }
@@ -70,14 +79,12 @@ fn moment_of<T: Tree>(entity: &Entity<T>, reading: u64) -> u64
     event_moment(entity.last, reading)
 }
 
-/// Whether memory ran out when members of a fan-out had been served.
-fn is_cut_short(outcome: &Outcome) -> bool
-    ensures { result ≡ is_cut_short outcome.now }
+/// Whether it is sure that the moment of an event at a reading of the clock is that of the last
+/// event.
+fn stands_still<T: Tree>(entity: &Entity<T>, reading: u64) -> bool
+    ensures { result ≡ true → cut reading ≤ entity.now.last }
 {
-    match outcome {
-        Outcome::Starved { done } => *done > 0,
-        _ => false,
-    }
+    reading <= entity.last
 }
 
 /// Whether what was due is gone.
@@ -94,6 +101,13 @@ fn is_ticked(outcome: Outcome) -> bool
 #[inline(never)]
 fn let_go(observed: ObservedStep) {
     drop(observed);
+}
+
+/// Lets go a reply that can't be kept. It stands apart, as each part of all that a reply may hold is
+/// looked at here.
+#[inline(never)]
+fn let_reply_go(reply: Reply) {
+    drop(reply);
 }
 
 /// Memory ran out.
@@ -140,6 +154,24 @@ impl<T: Tree> Journaled<T> {
         ensures small { result < moment_bound }
     {
         moment_of(&self.entity, reading)
+    }
+
+    /// Whether it is sure that the moment of an event at a reading of the clock is that of the last
+    /// event.
+    #[inline(always)]
+    fn stands_still(&self, reading: u64) -> bool
+        ensures { result ≡ true → cut reading ≤ self.now.last }
+    {
+        stands_still(&self.entity, reading)
+    }
+
+    /// How many items there are.
+    #[inline(always)]
+    fn items(&self) -> u64
+        ensures items { result ≡ length self.now.items }
+        ensures sound { IsSoundEntity self.now }
+    {
+        items_of(&self.entity)
     }
 
     /// How many resources and how many items there are.
@@ -299,8 +331,31 @@ impl<T: Tree> Journaled<T> {
         Some(())
     }
 
-    /// Takes a step for an event of the machine whose lines aren't made ready before.
+    /// Takes a step at a moment that stands still for an event by which nothing changes then, unless
+    /// a poll takes an item. Nothing is written.
     #[inline(always)]
+    fn record_still(&mut self, reading: u64, event: &Event) -> Option<Came>
+        requires still { cut reading ≤ self.old.last }
+        requires reads { reads_alone event.now ≡ true }
+        ensures step { IfSome result
+            (λ came. StepsAsMachine reading event.now self.old came self.new) }
+        ensures same { IfSome result (λ _. self.new ≡ self.old) }
+    {
+        let waiting = self.items();
+        // The reply is taken from where it stands: an outcome has many bytes more.
+        let reply = match step(self.alloc, &mut self.entity, reading, event) {
+            Outcome::Done(reply) => reply,
+            other => return hand_unserved_on(self.alloc, other),
+        };
+        if self.items() < waiting {
+            let_reply_go(reply);
+            return None;
+        }
+        Some(Came::of_reply(reply))
+    }
+
+    /// Takes a step for an event of the machine whose lines aren't made ready before.
+    #[inline(never)]
     fn record_unready(&mut self, reading: u64, event: &Event, lines: &mut Vec<u8>) -> Option<Came>
         ensures step { IfSome result
             (λ came. StepsAsMachine reading event.now self.old came self.new) }
@@ -430,7 +485,8 @@ impl<T: Tree> Journaled<T> {
         }
     }
 
-    /// Takes a step for an event. It stands apart, as what most requests give needs less room.
+    /// Takes a step for any event. It is a function of its own, so that a Retrieve that takes the
+    /// short way needs no room for what other events give.
     #[inline(never)]
     fn record_ready(&mut self, reading: u64, event: &KeptEvent, lines: &mut Vec<u8>) -> Option<Came>
         ensures step { IfSome result
@@ -470,12 +526,16 @@ impl<T: Tree> Recorder for Journaled<T> {
             (λ outcome. spec.may_change_kept reading self.old event.now outcome self.new ≡ false
             → differs self.old self.new ≡ false → lines.new.items ≡ lines.old.items) }
     {
-        match event {
-            KeptEvent::OfMachine(asked) if !is_made_ready(asked) => {
-                self.record_unready(reading, asked, lines)
-            }
-            _ => self.record_ready(reading, event, lines),
+        let KeptEvent::OfMachine(asked) = event else {
+            return self.record_ready(reading, event, lines);
+        };
+        if is_made_ready(asked) {
+            return self.record_ready(reading, event, lines);
         }
+        if self.stands_still(reading) {
+            return self.record_still(reading, asked);
+        }
+        self.record_unready(reading, asked, lines)
     }
 
     fn snapshot(&self) -> Option<Vec<u8>> {

@@ -134,15 +134,13 @@ impl<O: Recorder, F: NamedFile> KeptObject<O, F> {
         requires { self.old.journal.is_failed ≡ false }
         ensures { OnEvent O.step O.keeps reading event.now self.old result self.new }
     {
-        match self.object.record(reading, event, &mut self.pending) {
-            Some(outcome) => Report::Done {
-                outcome,
-                settled: self.pending.is_empty(),
-            },
-            None => {
-                self.journal.give_up();
-                Report::Failed
-            }
+        let Some(outcome) = self.object.record(reading, event, &mut self.pending) else {
+            self.journal.give_up();
+            return Report::Failed;
+        };
+        Report::Done {
+            outcome,
+            settled: self.pending.is_empty(),
         }
     }
 

@@ -1,4 +1,4 @@
-use Rattle.std.proofs.Common.{◌≡◌, ℕ, Bool, List, sym, ap, subst, ◌∙◌}
+use Rattle.std.proofs.Common.{◌≡◌, ℕ, Bool, List, ap, subst, ◌∙◌}
 use Rattle.std.specs.Prelude.{IfSome, false}
 use Rattle.entity_model.specs.Entity.{swept}
 use Rattle.journal_events.specs.declared.event.KeptOutcome.{KeptOutcome}

@@ -1,6 +1,5 @@
-use Rattle.std.proofs.Common.{◌≡◌, ℕ, true, false, List, ◌++◌, sym, ap, subst, ◌∙◌}
+use Rattle.std.proofs.Common.{◌≡◌, true, false, ◌++◌, sym, ap, subst, ◌∙◌}
 use Rattle.entity_model.specs.Entity.{EntityData}
-use Rattle.cse_machine.specs.declared.event.Event.TheVariants as events
 use Rattle.journal_lines.specs.Lines.{lines_of}
 use Rattle.journal_lines.specs.declared.deed.Deed.TheVariants as deeds
 use Rattle.journal_events.specs.Steps.{TakesSent, is_next}
