@@ -122,7 +122,7 @@ fn link(attr: Attr, ids: Vec<Val>, attrs: &mut Attrs) -> Result<(), OutOfMemory>
         return Ok(());
     }
     let alloc = *ids.allocator();
-    attrs.set(attr, Val::of_list(Items::shared(alloc, ids)))
+    attrs.set(attr, Val::of_shared_list(alloc, Items::of(ids)))
 }
 
 /// Puts in the policies that a content names, which are live.

@@ -1,5 +1,5 @@
 -- Values go from thread to thread, and so do the lists that they share. A value holds lists and
--- objects of values, so both are shown of the three types at once, by one layer of each: where what
+-- objects of values, so both are shown of the four types at once, by one layer of each: where what
 -- a layer reaches may be sent and shared, so may the layer (`sends`, `syncs`), and `both_send` goes
 -- on from there.
 --     X_fields      a layer's fields, as the type declares them.        X_at      the same at the type's own values
@@ -25,7 +25,7 @@ use Rattle.m2m_value.specs.contracts.key.MemberKey as key
 use Rattle.m2m_value.specs.contracts.key.MemberKey.TheInside as key_inside
 use Rattle.m2m_value.specs.contracts.value.Items.TheKnot as knot
 use Rattle.m2m_value.specs.contracts.value.Items.TheKnot.{sizes, frame, step}
-use Rattle.m2m_value.specs.declared.value.Items.TheDeep.{the_members, member-Items, member-Members, member-Val, split-Hold, join-Hold, joins-Hold, split-Items, join-Items, joins-Items, split-Members, join-Members, joins-Members, split-Node, join-Node, joins-Node, split-Val, join-Val, joins-Val}
+use Rattle.m2m_value.specs.declared.value.Items.TheDeep.{the_members, member-Items, member-Members, member-SharedItems, member-Val, split-Items, join-Items, joins-Items, split-Members, join-Members, joins-Members, split-SharedItems, join-SharedItems, joins-SharedItems, split-Node, join-Node, joins-Node, split-Val, join-Val, joins-Val}
 
 pub text_send : IsSend text.the_row
 text_send = search (sendable, crosses) depth 20
@@ -82,31 +82,17 @@ i64_sync = as_row_sync i64-field (search sendable)
 
 -- one layer of each type, where what it reaches may be sent and shared
 module _ (p : Parts frame) (s : (j : the_members) → IsSend (rows frame p j)) (y : (j : the_members) → IsSync (rows frame p j)) where
-  hold_fields_send : IsSend (E.row (E.declared (knot.type-Hold (rows frame p member-Val) (rows frame p member-Val))))
-  hold_fields_send = variants_send (knot.type-Hold (rows frame p member-Val) (rows frame p member-Val))
-      ((row_send _ (Vec-send (rows frame p member-Val) (s member-Val)), tt), ((row_send _ (Arc-send _ (Vec-send (rows frame p member-Val) (s member-Val)) (Vec-sync (rows frame p member-Val) (y member-Val))), tt), tt))
+  items_fields_send : IsSend (S.row (knot.type-Items (rows frame p member-Val)))
+  items_fields_send = declared_send (knot.type-Items (rows frame p member-Val)) (row_send _ (Vec-send (rows frame p member-Val) (s member-Val)), tt)
 
-  hold_fields_sync : IsSync (E.row (E.declared (knot.type-Hold (rows frame p member-Val) (rows frame p member-Val))))
-  hold_fields_sync = variants_sync (knot.type-Hold (rows frame p member-Val) (rows frame p member-Val))
-      ((row_sync _ (Vec-sync (rows frame p member-Val) (y member-Val)), tt), ((row_sync _ (Arc-sync _ (Vec-send (rows frame p member-Val) (s member-Val)) (Vec-sync (rows frame p member-Val) (y member-Val))), tt), tt))
-
-  hold_at_send : IsSend (knot.at-Hold p)
-  hold_at_send = rejoined_send (knot.layer-Hold (rows frame p member-Val) (rows frame p member-Val)) _ split-Hold join-Hold joins-Hold hold_fields_send
-
-  hold_at_sync : IsSync (knot.at-Hold p)
-  hold_at_sync = rejoined_sync (knot.layer-Hold (rows frame p member-Val) (rows frame p member-Val)) _ split-Hold join-Hold joins-Hold hold_fields_sync
-
-  items_fields_send : IsSend (S.row (knot.type-Items (knot.at-Hold p)))
-  items_fields_send = declared_send (knot.type-Items (knot.at-Hold p)) (row_send (knot.at-Hold p) hold_at_send, tt)
-
-  items_fields_sync : IsSync (S.row (knot.type-Items (knot.at-Hold p)))
-  items_fields_sync = declared_sync (knot.type-Items (knot.at-Hold p)) (row_sync (knot.at-Hold p) hold_at_sync, tt)
+  items_fields_sync : IsSync (S.row (knot.type-Items (rows frame p member-Val)))
+  items_fields_sync = declared_sync (knot.type-Items (rows frame p member-Val)) (row_sync _ (Vec-sync (rows frame p member-Val) (y member-Val)), tt)
 
   items_at_send : IsSend (knot.at-Items p)
-  items_at_send = rejoined_send (knot.layer-Items (knot.at-Hold p)) _ split-Items join-Items joins-Items items_fields_send
+  items_at_send = rejoined_send (knot.layer-Items (rows frame p member-Val)) _ split-Items join-Items joins-Items items_fields_send
 
   items_at_sync : IsSync (knot.at-Items p)
-  items_at_sync = rejoined_sync (knot.layer-Items (knot.at-Hold p)) _ split-Items join-Items joins-Items items_fields_sync
+  items_at_sync = rejoined_sync (knot.layer-Items (rows frame p member-Val)) _ split-Items join-Items joins-Items items_fields_sync
 
   items_view_send : IsSend (knot.view-Items p)
   items_view_send = record { owned = λ d vs x. (items_at_send.owned x.0 vs, tt); leaving = λ k d w. tt }
@@ -154,8 +140,34 @@ module _ (p : Parts frame) (s : (j : the_members) → IsSend (rows frame p j)) (
   members_syncs : IsSync (rows frame (step p) member-Members)
   members_syncs = has_of frame sync (step p) member-Members (part_has sync (knot.view-Members p) members_view_sync)
 
-  node_fields_send : IsSend (E.row (E.declared (knot.type-Node (rows frame p member-Items) (rows frame p member-Members))))
-  node_fields_send = variants_send (knot.type-Node (rows frame p member-Items) (rows frame p member-Members)) (
+  shared_fields_send : IsSend (S.row (knot.type-SharedItems (rows frame p member-Items)))
+  shared_fields_send = declared_send (knot.type-SharedItems (rows frame p member-Items))
+      (row_send _ (Arc-send (rows frame p member-Items) (s member-Items) (y member-Items)), tt)
+
+  shared_fields_sync : IsSync (S.row (knot.type-SharedItems (rows frame p member-Items)))
+  shared_fields_sync = declared_sync (knot.type-SharedItems (rows frame p member-Items))
+      (row_sync _ (Arc-sync (rows frame p member-Items) (s member-Items) (y member-Items)), tt)
+
+  shared_at_send : IsSend (knot.at-SharedItems p)
+  shared_at_send = rejoined_send (knot.layer-SharedItems (rows frame p member-Items)) _ split-SharedItems join-SharedItems joins-SharedItems shared_fields_send
+
+  shared_at_sync : IsSync (knot.at-SharedItems p)
+  shared_at_sync = rejoined_sync (knot.layer-SharedItems (rows frame p member-Items)) _ split-SharedItems join-SharedItems joins-SharedItems shared_fields_sync
+
+  shared_view_send : IsSend (knot.view-SharedItems p)
+  shared_view_send = record { owned = λ d vs x. (shared_at_send.owned x.0 vs, tt); leaving = λ k d w. tt }
+
+  shared_view_sync : IsSync (knot.view-SharedItems p)
+  shared_view_sync = record { shared = λ d b o κ x. (shared_at_sync.shared x.0 b o κ, tt) }
+
+  shared_sends : IsSend (rows frame (step p) member-SharedItems)
+  shared_sends = has_of frame send (step p) member-SharedItems (part_has send (knot.view-SharedItems p) shared_view_send)
+
+  shared_syncs : IsSync (rows frame (step p) member-SharedItems)
+  shared_syncs = has_of frame sync (step p) member-SharedItems (part_has sync (knot.view-SharedItems p) shared_view_sync)
+
+  node_fields_send : IsSend (E.row (E.declared (knot.type-Node (rows frame p member-Items) (rows frame p member-Members) (rows frame p member-SharedItems))))
+  node_fields_send = variants_send (knot.type-Node (rows frame p member-Items) (rows frame p member-Members) (rows frame p member-SharedItems)) (
     tt,
     (
       (row_send (as_row bool-field) bool_send, tt),
@@ -163,14 +175,17 @@ module _ (p : Parts frame) (s : (j : the_members) → IsSend (rows frame p j)) (
         (row_send (as_row i64-field) i64_send, tt),
         (
           (row_send (as_row text.the_field) text_send, tt),
-          ((row_send (rows frame p member-Items) (s member-Items), tt), ((row_send (rows frame p member-Members) (s member-Members), tt), tt)),
+          (
+            (row_send (rows frame p member-Items) (s member-Items), tt),
+            ((row_send (rows frame p member-Members) (s member-Members), tt), ((row_send (rows frame p member-SharedItems) (s member-SharedItems), tt), tt)),
+          ),
         ),
       ),
     ),
   )
 
-  node_fields_sync : IsSync (E.row (E.declared (knot.type-Node (rows frame p member-Items) (rows frame p member-Members))))
-  node_fields_sync = variants_sync (knot.type-Node (rows frame p member-Items) (rows frame p member-Members)) (
+  node_fields_sync : IsSync (E.row (E.declared (knot.type-Node (rows frame p member-Items) (rows frame p member-Members) (rows frame p member-SharedItems))))
+  node_fields_sync = variants_sync (knot.type-Node (rows frame p member-Items) (rows frame p member-Members) (rows frame p member-SharedItems)) (
     tt,
     (
       (row_sync (as_row bool-field) bool_sync, tt),
@@ -178,17 +193,20 @@ module _ (p : Parts frame) (s : (j : the_members) → IsSend (rows frame p j)) (
         (row_sync (as_row i64-field) i64_sync, tt),
         (
           (row_sync (as_row text.the_field) text_sync, tt),
-          ((row_sync (rows frame p member-Items) (y member-Items), tt), ((row_sync (rows frame p member-Members) (y member-Members), tt), tt)),
+          (
+            (row_sync (rows frame p member-Items) (y member-Items), tt),
+            ((row_sync (rows frame p member-Members) (y member-Members), tt), ((row_sync (rows frame p member-SharedItems) (y member-SharedItems), tt), tt)),
+          ),
         ),
       ),
     ),
   )
 
   node_at_send : IsSend (knot.at-Node p)
-  node_at_send = rejoined_send (knot.layer-Node (rows frame p member-Items) (rows frame p member-Members)) _ split-Node join-Node joins-Node node_fields_send
+  node_at_send = rejoined_send (knot.layer-Node (rows frame p member-Items) (rows frame p member-Members) (rows frame p member-SharedItems)) _ split-Node join-Node joins-Node node_fields_send
 
   node_at_sync : IsSync (knot.at-Node p)
-  node_at_sync = rejoined_sync (knot.layer-Node (rows frame p member-Items) (rows frame p member-Members)) _ split-Node join-Node joins-Node node_fields_sync
+  node_at_sync = rejoined_sync (knot.layer-Node (rows frame p member-Items) (rows frame p member-Members) (rows frame p member-SharedItems)) _ split-Node join-Node joins-Node node_fields_sync
 
   val_fields_send : IsSend (S.row (knot.type-Val (knot.at-Node p)))
   val_fields_send = declared_send (knot.type-Val (knot.at-Node p)) (row_send (knot.at-Node p) node_at_send, tt)
@@ -217,11 +235,13 @@ module _ (p : Parts frame) (s : (j : the_members) → IsSend (rows frame p j)) (
 sends : (p : Parts frame) → ((j : the_members) → IsSend (rows frame p j)) → ((j : the_members) → IsSync (rows frame p j)) → (i : the_members) → IsSend (rows frame (step p) i)
 sends p s y member-Items = items_sends p s y
 sends p s y member-Members = members_sends p s y
+sends p s y member-SharedItems = shared_sends p s y
 sends p s y member-Val = val_sends p s y
 
 syncs : (p : Parts frame) → ((j : the_members) → IsSend (rows frame p j)) → ((j : the_members) → IsSync (rows frame p j)) → (i : the_members) → IsSync (rows frame (step p) i)
 syncs p s y member-Items = items_syncs p s y
 syncs p s y member-Members = members_syncs p s y
+syncs p s y member-SharedItems = shared_syncs p s y
 syncs p s y member-Val = val_syncs p s y
 
 pub val_send : IsSend val.the_row

@@ -1,10 +1,14 @@
--- Lists that grow by one.
-use Rattle.std.proofs.Common.{◌≡◌, ℕ, ◌+◌, ◌<◌, ◌==◌, false, List, [], ◌∷◌, ◌++◌, length, bytes_eq, take, get_or, Option, Some, None, append-nil, append_assoc, ap, ◌∙◌}
+-- Lists that grow by one, and the alternatives of a condition.
+use Rattle.std.proofs.Common.{◌≡◌, ℕ, ◌+◌, ◌<◌, ◌==◌, false, List, [], ◌∷◌, ◌++◌, length, bytes_eq, take, get_or, Option, Some, None, append-nil, append_assoc, refl, ap, ◌∙◌}
 use Rattle.std.proofs.lemmas.Bool.{both_ways, eq-eqb, false_from_ne_true}
 use Rattle.std.proofs.lemmas.List.{take_more}
 use Rattle.std.proofs.lemmas.Slice.Eq.{bytes_eq-Decides}
 use Rattle.std.proofs.lemmas.List.Elements.{filter_map-append}
 use Rattle.std.specs.List.{AllByRecursion, cons_option, filter_map}
+use Rattle.m2m_value.specs.Data.{Data, null, boolean, number, text, list, object}
+use Rattle.m2m_value.specs.View.{as_list}
+use Rattle.m2m_value.proofs.Levels.{elements-elements_of, list_seen}
+use Rattle.filter_criteria.specs.Conditions.{alternatives}
 
 pub all_push : {X : Type 0} (P : X → Type 0) (xs : List X) (x : X) → AllByRecursion P xs → P x → AllByRecursion P (xs ++ x ∷ [])
 all_push P [] x h one = (one, tt)
@@ -24,3 +28,17 @@ filter_map-next f ys x rest = next ys (f x) (filter_map f rest)
 -- bytes of which there aren't as many are others
 pub lengths_apart : (xs ys : List ℕ) → (length xs == length ys) ≡ false → bytes_eq xs ys ≡ false
 lengths_apart xs ys apart = false_from_ne_true _ (λ same. both_ways _ apart (eq-eqb (length xs) (length ys) (ap length ((bytes_eq-Decides xs ys).0 same))))
+
+-- the alternatives of what is seen as a list are its elements, and what isn't is alone
+pub alternatives_of_list : (d : Data) (ds : List Data) → as_list d ≡ Some ds → alternatives d ≡ ds
+alternatives_of_list d ds seen = ap alternatives (list_seen d ds seen) ∙ elements-elements_of ds
+
+pub alternative : (d : Data) → as_list d ≡ None → alternatives d ≡ d ∷ []
+alternative null seen = refl
+alternative (boolean b) seen = refl
+alternative (number z) seen = refl
+alternative (text s) seen = refl
+alternative (list es) seen = cc
+alternative (object ps) seen = refl
+
+pub ruleset alternatives_rules = (alternatives_of_list, alternative)

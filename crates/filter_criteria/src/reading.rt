@@ -12,7 +12,7 @@ use crate::condition::{Condition, Sort};
 use crate::filter::{Filter, FilterParts, FilterUsage};
 use crate::values::{owned_text, read_type_number, value_at};
 use m2m_names::read_stamp;
-use m2m_value::{Labels, MemberKey, Node, Numbers, Text, Val, is_label_text};
+use m2m_value::{Labels, MemberKey, Numbers, Text, Val, is_label_text};
 use std::alloc::{AllocError as OutOfMemory, Global};
 use std::slice;
 
@@ -171,14 +171,15 @@ pub fn plain_filter(alloc: Global, filter: &Val) -> Result<Filter, OutOfMemory>
 }
 
 /// The same alternatives, moved out of the value, or copied where a copy of the value has them too.
+#[tactic(auto, using(crate::proofs::Lists::alternatives_rules))]
 fn alternatives_from(alloc: Global, value: Val) -> Result<Vec<Val>, OutOfMemory>
     ensures { IfOk result (λ parts. parts.items ≡ spec.alternatives value) }
 {
-    match value.into_node() {
-        Node::List(items) => items.into_vec(alloc),
-        node => {
+    match value.into_list(alloc)? {
+        Ok(items) => Ok(items.into_vec()),
+        Err(value) => {
             let mut parts = Vec::with_capacity(alloc, 1)?;
-            parts.push(Val::of(node))?;
+            parts.push(value)?;
             Ok(parts)
         }
     }

@@ -1,7 +1,9 @@
 -- How deep the values of a list nest, one after another.
-use Rattle.std.proofs.Common.{◌≡◌, ℕ, suc, ◌+◌, ◌-◌, ◌<◌, ◌≤◌, max, nat_le, nat_lt, List, [], length, drop, get_or, Bool, true, false, ◌&&◌, refl, sym, ap, ◌∙◌, arith, inl, inr, le-leb}
+use Rattle.std.proofs.Common.{◌≡◌, ℕ, suc, ◌+◌, ◌-◌, ◌<◌, ◌≤◌, max, nat_le, nat_lt, List, [], Some, None, length, drop, get_or, Bool, true, false, ◌&&◌, refl, sym, ap, ◌∙◌, arith, inl, inr, le-leb}
 use Rattle.std.proofs.lemmas.List.{drop_more}
-use Rattle.m2m_value.specs.Data.{Data, Entry, null, depth, elements_depth, elements_of, pairs_depth, pairs_of}
+use Rattle.m2m_value.specs.Data.{Data, Entry, null, boolean, number, text, list, object, depth, elements_depth, elements_of, pairs_depth, pairs_of}
+use Rattle.m2m_value.specs.View.{as_list, as_object}
+use Rattle.m2m_value.proofs.Levels.{list_seen, object_seen}
 use Rattle.std.proofs.lemmas.Bool.{cases_Bool, leb-true, ltb-true}
 use Rattle.std.proofs.lemmas.Bool.Decides.{nat_tests}
 
@@ -31,4 +33,19 @@ members_from es i most within =
     ap (λ ds. nat_le (pairs_depth (pairs_of ds)) most) (drop_more es i ([], null) within)
     ∙ depth_both (depth (get_or es i ([], null)).1) (pairs_depth (pairs_of (drop (i + 1) es))) most
 
-pub ruleset depth_rules = (depth_down, depth_none)
+-- how deep a value is that is a list, one that is an object, and one that is neither
+pub depth_list : (d : Data) (ds : List Data) → as_list d ≡ Some ds → depth d ≡ suc (elements_depth (elements_of ds))
+depth_list d ds is = ap depth (list_seen d ds is)
+
+pub depth_object : (d : Data) (es : List Entry) → as_object d ≡ Some es → depth d ≡ suc (pairs_depth (pairs_of es))
+depth_object d es is = ap depth (object_seen d es is)
+
+pub depth_alone : (d : Data) → as_list d ≡ None → as_object d ≡ None → depth d ≡ 0
+depth_alone null no_list no_object = refl
+depth_alone (boolean b) no_list no_object = refl
+depth_alone (number z) no_list no_object = refl
+depth_alone (text s) no_list no_object = refl
+depth_alone (list es) no_list no_object = cc
+depth_alone (object ps) no_list no_object = cc
+
+pub ruleset depth_rules = (depth_down, depth_none, depth_list, depth_object, depth_alone)

@@ -2,7 +2,7 @@
 ghost use Rattle.std.specs.Prelude.{◌≡◌, nat_le};
 ghost use Rattle.m2m_value.specs.Data.{depth, elements_depth, elements_of, pairs_depth, pairs_of};
 
-use m2m_value::{MemberKey, Node, Val};
+use m2m_value::{MemberKey, Val};
 
 /// Whether lists and objects nest no deeper than this.
 #[cycle(shallow)]
@@ -10,10 +10,12 @@ use m2m_value::{MemberKey, Node, Val};
 pub fn is_within(value: &Val, most: u64) -> bool
     ensures { result ≡ nat_le (depth value.now) most }
 {
-    match value.node() {
-        Node::List(items) => most > 0 && are_items_within(items.entries(), most - 1),
-        Node::Obj(members) => most > 0 && are_members_within(members.entries(), most - 1),
-        _ => true,
+    if let Some(items) = value.as_list() {
+        return most > 0 && are_items_within(items.entries(), most - 1);
+    }
+    match value.as_obj() {
+        Some(members) => most > 0 && are_members_within(members.entries(), most - 1),
+        None => true,
     }
 }
 

@@ -1,25 +1,13 @@
--- What stands in a list is smaller than the list, by the size that shows that a walk down a value ends.
-use Rattle.std.proofs.Common.{◌≡◌, ℕ, zero, suc, ◌+◌, ◌*◌, ◌<◌, ◌≤◌, List, [], ◌∷◌, length, get_or, sym, subst, arith}
-use denote.Param.Weighed.{most}
-use Rattle.m2m_value.specs.Data.{Data, list, depth, elements_depth, elements_of}
-use Rattle.m2m_value.specs.declared.value.Items.TheDeep.{size-Items, size-Val}
+-- A list is smaller than the value that it is, by the size that shows that a walk down a value ends.
+use Rattle.std.proofs.Common.{◌≡◌, ◌+◌, ◌≤◌, List, sym, subst, arith}
+use Rattle.m2m_value.specs.Data.{Data, list, elements_of}
+use Rattle.m2m_value.specs.declared.value.Items.TheDeep.{size-Items, size-SharedItems, size-Val}
 
-most_below : (ds : List Data) → most (λ x. size-Val x) ds ≤ 4 * elements_depth (elements_of ds) + 2
-most_below [] = omega arith
-most_below (d ∷ ds) = omega (arith, most_below ds)
+-- the list that a shared list is, beside the value
+pub list_below : (items shared : List Data) (v : Data) → items ≡ shared → list (elements_of shared) ≡ v → size-Items items + 2 ≤ size-Val v
+list_below items shared v same is =
+    subst (λ ds. size-Items ds + 2 ≤ size-Val v) (sym same) (subst (λ d. size-Items shared + 2 ≤ size-Val d) is (omega arith))
 
--- all values of a list, beside the value that the list is
-pub values_below : (vs items : List Data) (v : Data) → vs ≡ items → list (elements_of items) ≡ v → most (λ x. size-Val x) vs + 4 ≤ size-Val v
-values_below vs items v same is =
-    subst (λ ds. most (λ x. size-Val x) ds + 4 ≤ size-Val v) (sym same) (subst (λ d. most (λ x. size-Val x) items + 4 ≤ size-Val d) is (omega (arith, most_below items)))
-
-one_below : (ds : List Data) (place : ℕ) (d : Data) → place < length ds → depth (get_or ds place d) ≤ elements_depth (elements_of ds)
-one_below [] place d p = absurd (omega arith)
-one_below (x ∷ xs) zero d p = omega arith
-one_below (x ∷ xs) (suc place) d p = let h : depth (get_or xs place d) ≤ elements_depth (elements_of xs) = one_below xs place d (omega arith) in omega arith
-
--- one value of a list, beside the list
-pub value_below : (vs items : List Data) (place : ℕ) (v : Data) → vs ≡ items → place < length vs → v ≡ get_or vs place v → size-Val v + 2 ≤ size-Items items
-value_below vs items place v same p is =
-    let below : depth v ≤ elements_depth (elements_of vs) = subst (λ d. depth d ≤ elements_depth (elements_of vs)) (sym is) (one_below vs place v p) in
-    subst (λ ds. size-Val v + 2 ≤ size-Items ds) same (omega (arith, below))
+-- and beside the shared list
+pub items_below : (items shared : List Data) → items ≡ shared → size-Items items + 2 ≤ size-SharedItems shared
+items_below items shared same = subst (λ ds. size-Items ds + 2 ≤ size-SharedItems shared) (sym same) (omega arith)

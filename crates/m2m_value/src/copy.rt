@@ -1,9 +1,10 @@
 //! Copies, written out since a derived clone of a type that holds itself says nothing of the
 //! result.
 ghost use Rattle.std.specs.Prelude.{◌≡◌, IfOk};
+ghost use Rattle.m2m_value.specs.Data.{elements_of, list};
 
 use crate::key::MemberKey;
-use crate::value::{Items, Members, Node, Val};
+use crate::value::{Items, Members, Node, SharedItems, Val};
 use std::alloc::{AllocError as OutOfMemory, Global};
 
 impl Val {
@@ -24,26 +25,32 @@ fn copied(alloc: Global, value: &Val) -> Result<Val, OutOfMemory>
         Node::Bool(b) => Ok(Val::of(Node::Bool(*b))),
         Node::Num(n) => Ok(Val::of(Node::Num(*n))),
         Node::Text(text) => Ok(Val::of(Node::Text(text.copy(alloc)?))),
-        Node::List(items) => match items.again() {
-            Some(again) => Ok(Val::of(Node::List(again))),
-            None => Ok(Val::of(Node::List(Items::shared(
-                alloc,
-                copied_values(alloc, items.entries())?,
-            )))),
-        },
+        Node::List(items) => Ok(Val::of_shared_list(alloc, copied_items(alloc, items)?)),
         Node::Obj(members) => Ok(Val::of(Node::Obj(copied_members(alloc, members)?))),
+        Node::Shared(shared) => copied_shared(alloc, shared),
+    }
+}
+
+// One owner more, and a list of its own where there are too many.
+#[cycle(copy)]
+fn copied_shared(alloc: Global, shared: &SharedItems) -> Result<Val, OutOfMemory>
+    ensures { IfOk result (λ v. v ≡ list (elements_of shared.now)) }
+{
+    match shared.again() {
+        Some(again) => Ok(Val::of(Node::Shared(again))),
+        None => Ok(Val::of_shared_list(alloc, copied_items(alloc, shared.items())?)),
     }
 }
 
 #[cycle(copy)]
-pub(crate) fn copied_values(alloc: Global, values: &[Val]) -> Result<Vec<Val>, OutOfMemory>
-    ensures { IfOk result (λ vs. vs.items ≡ values.now) }
+pub(crate) fn copied_items(alloc: Global, items: &Items) -> Result<Items, OutOfMemory>
+    ensures { IfOk result (λ copy. copy ≡ items.now) }
 {
-    let mut copies = Vec::with_capacity(alloc, values.len())?;
-    for value in values {
-        copies.push(copied(alloc, value)?)?;
+    let mut values = Vec::with_capacity(alloc, items.values.len())?;
+    for value in &items.values {
+        values.push(copied(alloc, value)?)?;
     }
-    Ok(copies)
+    Ok(Items::of(values))
 }
 
 #[cycle(copy)]

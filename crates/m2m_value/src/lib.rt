@@ -15,7 +15,7 @@
 //! its own first. `read_in` has the caller's `Scratch`, which is kept from read to read and grows
 //! to the longest text. It makes the value of what `json` reads, with no value of `serde_json`
 //! between, and the keys that most requests have take no memory. A list of at least
-//! `Items::SHARED_FROM` values takes one allocation more, in which its owners are counted. A copy
+//! `SharedItems::FROM` values takes one allocation more, in which its owners are counted. A copy
 //! of the list is one more owner then: it takes no memory, and no time for what the list has. A
 //! copy of anything else is one pass over it, with an allocation for each list, each object and
 //! each text of more than `Text::ROOM` bytes. A write is one pass over the value, and its bytes go
@@ -52,5 +52,5 @@ pub use reading::{read, read_in};
 pub use shapes::{count_of, is_label_text};
 pub use std::alloc::AllocError as OutOfMemory;
 pub use text::{Labels, Numbers, Text};
-pub use value::{Items, Members, Node, Val};
+pub use value::{Items, Members, Node, SharedItems, Val};
 pub use writing::write;

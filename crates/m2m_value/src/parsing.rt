@@ -62,7 +62,7 @@ fn taken(alloc: Global, value: json::Value<'_>) -> Option<Val>
         json::Value::Bool(b) => Some(Val::of(Node::Bool(b))),
         json::Value::Number(text) => Some(Val::of(Node::Num(number_taken(text)?))),
         json::Value::String(text) => Some(Val::of(Node::Text(text_taken(alloc, text)?))),
-        json::Value::Array(items) => Some(Val::of(Node::List(items_taken(alloc, items)?))),
+        json::Value::Array(items) => Some(Val::of_shared_list(alloc, items_taken(alloc, items)?)),
         json::Value::Object(members) => Some(Val::of(Node::Obj(members_taken(alloc, members)?))),
     }
 }
@@ -101,7 +101,7 @@ fn items_taken(alloc: Global, items: Vec<json::Value<'_>>) -> Option<Items>
     for item in items {
         values.push(taken(alloc, item)?).ok()?;
     }
-    Some(Items::shared(alloc, values))
+    Some(Items::of(values))
 }
 
 /// The members go in one after another, so that of those with one key the last stays.

@@ -47,7 +47,7 @@ fn kept(alloc: Global, value: Value) -> Result<Val, ValFault>
         Value::Bool(b) => Ok(Val::of(Node::Bool(b))),
         Value::Number(n) => Ok(Val::of(Node::Num(whole(n)?))),
         Value::String(s) => Ok(Val::of(Node::Text(text_of_string(s)))),
-        Value::Array(items) => Ok(Val::of(Node::List(kept_items(alloc, items)?))),
+        Value::Array(items) => Ok(Val::of_shared_list(alloc, kept_items(alloc, items)?)),
         Value::Object(members) => Ok(Val::of(Node::Obj(kept_members(alloc, members)?))),
     }
 }
@@ -60,7 +60,7 @@ fn kept_items(alloc: Global, items: Vec<Value>) -> Result<Items, ValFault>
     for item in items {
         values.push(kept(alloc, item)?)?;
     }
-    Ok(Items::shared(alloc, values))
+    Ok(Items::of(values))
 }
 
 #[cycle(kept)]

@@ -1,11 +1,12 @@
 //! Equality of values, at every level.
 ghost use Rattle.std.specs.Prelude.{◌≡◌, ◌↔◌, ◌&&◌, IsTrue, bytes_eq};
 ghost use Rattle.std.specs.Cmp.{decided, partial_equiv_from_equiv};
+ghost use Rattle.m2m_value.specs.Data.{elements_of, list};
 ghost use Rattle.m2m_value.specs.Same.{same, same_items, same_members};
 ghost use Rattle.m2m_value.specs.Same.{same-Decides, same_items-Decides, same_members-Decides};
 
 use crate::key::MemberKey;
-use crate::value::{Items, Members, Node, Val};
+use crate::value::{Items, Members, Node, SharedItems, Val};
 
 impl PartialEq for Val {
     ghost eq = { same };
@@ -67,10 +68,30 @@ fn are_same(one: &Val, other: &Val) -> bool
         (Node::Bool(a), Node::Bool(b)) => a == b,
         (Node::Num(a), Node::Num(b)) => a == b,
         (Node::Text(a), Node::Text(b)) => a == b,
-        (Node::List(a), Node::List(b)) => are_same_items(a.entries(), b.entries()),
         (Node::Obj(a), Node::Obj(b)) => are_same_members(&a.entries, &b.entries),
+        (Node::List(items), _) => is_same_list(items, other),
+        (Node::Shared(shared), _) => is_same_shared(shared, other),
         _ => false,
     }
+}
+
+// Whether the value is this list, whoever has either.
+#[cycle(same)]
+#[tactic(auto, using(crate::proofs::Levels::same_list_rules))]
+fn is_same_list(items: &Items, other: &Val) -> bool
+    ensures { result ≡ same (list (elements_of items.now)) other.now }
+{
+    match other.as_list() {
+        Some(others) => are_same_items(&items.values, others.entries()),
+        None => false,
+    }
+}
+
+#[cycle(same)]
+fn is_same_shared(shared: &SharedItems, other: &Val) -> bool
+    ensures { result ≡ same (list (elements_of shared.now)) other.now }
+{
+    is_same_list(shared.items(), other)
 }
 
 #[cycle(same)]

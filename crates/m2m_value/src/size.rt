@@ -6,7 +6,7 @@ ghost use Rattle.m2m_value.specs.Spelling.{escaped, quoted, comma_at, text_of, e
 ghost use Rattle.m2m_value.specs.Spelling.{pairs_from, size_of, capped};
 
 use crate::key::MemberKey;
-use crate::value::{Items, Members, Node, Val};
+use crate::value::{Items, Members, Node, SharedItems, Val};
 use crate::writing::short_escape;
 
 impl Val {
@@ -34,6 +34,7 @@ fn text_len(value: &Val) -> u64
         Node::Text(text) => quoted_len(text.entries()),
         Node::List(items) => items_len(items),
         Node::Obj(members) => members_len(members),
+        Node::Shared(shared) => shared_len(shared),
     }
 }
 
@@ -42,12 +43,19 @@ fn items_len(items: &Items) -> u64
     ensures { result ≡ capped (2 + length (elements_from (elements_of items.now) 0)) }
 {
     let mut len = 2u64;
-    for (place, value) in items.entries().iter().enumerate() {
+    for (place, value) in items.values.iter().enumerate() {
         len = len
             .saturating_add(comma_len(place))
             .saturating_add(text_len(value));
     }
     len
+}
+
+#[cycle(text_len)]
+fn shared_len(shared: &SharedItems) -> u64
+    ensures { result ≡ capped (2 + length (elements_from (elements_of shared.now) 0)) }
+{
+    items_len(shared.items())
 }
 
 #[cycle(text_len)]

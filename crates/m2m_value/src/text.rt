@@ -1,5 +1,5 @@
 //! Lists of bytes, of numbers and of texts, which clauses see as the lists themselves.
-ghost use Rattle.std.specs.Prelude.{◌≡◌, ◌++◌, ◌+◌, ◌≤◌, [], IfOk, IfSome, nat_eq, length, take};
+ghost use Rattle.std.specs.Prelude.{◌≡◌, ◌++◌, ◌+◌, ◌≤◌, [], IfOk, IfErr, IfSome, nat_eq, length, take};
 ghost use Rattle.std.specs.Cmp.Rules.{comparing};
 ghost use Rattle.std.specs.Cmp.Lexicographic.{pointwise};
 ghost use Rattle.std.proofs.Common.{rules};
@@ -132,14 +132,16 @@ impl Text {
         }
     }
 
-    /// Its bytes. Only a text without memory of its own is copied.
-    pub fn into_vec(self, alloc: Global) -> Result<Vec<u8>, OutOfMemory>
-        ensures { IfOk result (λ v. v.items ≡ self) }
+    /// Its bytes. Takes no memory: a text of at most `Text::ROOM` bytes may have none of its own, and
+    /// comes back then.
+    pub fn into_vec(self) -> Result<Vec<u8>, Text>
+        ensures ok { IfOk result (λ v. v.items ≡ self) }
+        ensures err { IfErr result (λ t. (t ≡ self) × (length self ≤ 30)) }
     {
         let Text { place } = self;
         match place {
-            Place::Inside(len, bytes) => Vec::from_slice(alloc, &bytes[..len as usize]),
             Place::Outside(bytes) => Ok(bytes),
+            inside => Err(Text { place: inside }),
         }
     }
 

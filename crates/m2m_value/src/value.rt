@@ -1,10 +1,10 @@
 //! JSON values, and how they are made and taken apart.
-ghost use Rattle.std.specs.Prelude.{◌≡◌, IfOk};
+ghost use Rattle.std.specs.Prelude.{◌≡◌};
 ghost use Rattle.std.specs.Arc.{arc_value};
 ghost use Rattle.std.specs.Cmp.Lexicographic.{slice_cmp};
 ghost use Rattle.std.specs.Ordering.{nat_cmp};
 
-use crate::copy::copied_values;
+use crate::copy::copied_items;
 use crate::key::MemberKey;
 use crate::text::Text;
 use std::alloc::{AllocError as OutOfMemory, Global};
@@ -21,7 +21,8 @@ pub struct Val {
     pub(crate) node: Node,
 }
 
-/// The top of a value, to be matched on.
+/// The top of a value, to be matched on. A list is `Shared` where its copies may have it too, and
+/// `List` where this value alone has it. `Val::as_list` and `Val::into_list` give either.
 #[cycle(value)]
 #[derive(Debug, Drop)]
 pub enum Node {
@@ -31,22 +32,22 @@ pub enum Node {
     Text(Text),
     List(Items),
     Obj(Members),
+    Shared(SharedItems),
 }
 
-/// A list of values. Clauses see it as the list of their `Data`. A long one that was read or copied
-/// is shared with its copies.
+/// A list of values. Clauses see it as the list of their `Data`.
 #[cycle(value)]
 #[derive(Debug, Drop)]
 pub struct Items {
-    hold: Hold,
+    pub(crate) values: Vec<Val>,
 }
 
-// Who has its values: this list alone, or also its copies.
+/// A list of values that has several owners, who are counted. Clauses see it as the list of their
+/// `Data`.
 #[cycle(value)]
 #[derive(Debug, Drop)]
-enum Hold {
-    Alone(Vec<Val>),
-    Shared(Arc<Vec<Val>>),
+pub struct SharedItems {
+    items: Arc<Items>,
 }
 
 /// The members of an object, whose keys are distinct and in the order of their bytes. Clauses see
@@ -72,7 +73,7 @@ impl Model for Val {
 
     ghost invariant = { λ a. IsJsonNode a.node };
 
-    ghost size = { λ d. 2 * depth d };
+    ghost size = { λ d. 3 * depth d };
 
     ghost use Rattle.m2m_value.specs.Falls.{node_falls};
 
@@ -89,15 +90,34 @@ impl Model for Items {
 
     ghost coded = { coded_list data_code };
 
-    ghost use Rattle.m2m_value.specs.Node.{values_of};
+    ghost view = { λ a. a.values.items };
 
-    ghost view = { λ a. values_of a.hold };
+    ghost size = { λ ds. 3 * elements_depth (elements_of ds) + 1 };
 
-    ghost size = { λ ds. 2 * elements_depth (elements_of ds) + 1 };
+    ghost use Rattle.std.proofs.Common.{arith};
+    ghost use Rattle.m2m_value.specs.Falls.{elements_fall};
 
-    ghost use Rattle.m2m_value.specs.Falls.{values_fall};
+    ghost size_decreases = { λ a h. omega (arith, elements_fall a.values.items) };
+}
 
-    ghost size_decreases = { λ a h. values_fall a.hold };
+impl Model for SharedItems {
+    ghost use Rattle.std.specs.Arc.{arc_value};
+    ghost use Rattle.std.specs.Prelude.{◌*◌, ◌+◌, List};
+    ghost use Rattle.m2m_value.specs.Data.{Data, elements_depth, elements_of};
+    ghost use Rattle.m2m_value.specs.Code.{data_code};
+    ghost use Rattle.std.specs.Coded.{coded_list};
+
+    ghost Value = { List Data };
+
+    ghost coded = { coded_list data_code };
+
+    ghost view = { λ a. arc_value a.items };
+
+    ghost size = { λ ds. 3 * elements_depth (elements_of ds) + 2 };
+
+    ghost use Rattle.std.proofs.Common.{arith};
+
+    ghost size_decreases = { λ a h. omega arith };
 }
 
 impl Model for Members {
@@ -116,7 +136,7 @@ impl Model for Members {
 
     ghost invariant = { λ a. AreSorted a.entries.items };
 
-    ghost size = { λ es. 2 * pairs_depth (pairs_of es) + 1 };
+    ghost size = { λ es. 3 * pairs_depth (pairs_of es) + 1 };
 
     ghost use Rattle.m2m_value.specs.Falls.{members_fall};
 
@@ -124,7 +144,8 @@ impl Model for Members {
 }
 
 impl Val {
-    ghost use Rattle.std.specs.Prelude.{◌≡◌, ◌↔◌, IsTrue, IfSome, IsUtf8, option_map};
+    ghost use Rattle.std.specs.Prelude.{◌≡◌, ◌↔◌, IsTrue, IfOk, IfErr, IfSome, Some};
+    ghost use Rattle.std.specs.Prelude.{None, IsUtf8, option_map};
     ghost use Rattle.m2m_value.specs.Data as plain;
     ghost use Rattle.m2m_value.specs.Data.{elements_of, pairs_of};
     ghost use Rattle.m2m_value.specs.Node.{data_of, HaveTextKeys, IsJsonNode};
@@ -172,6 +193,20 @@ impl Val {
         ensures { result ≡ plain.list (elements_of items) }
     {
         Val::of(Node::List(items))
+    }
+
+    /// The same, whose copies take no memory where its values are many. It takes memory once then,
+    /// to count the owners of the list; where there is none, the list isn't shared.
+    pub fn of_shared_list(alloc: Global, items: Items) -> Val
+        ensures { result ≡ plain.list (elements_of items) }
+    {
+        if items.values.len() < SharedItems::FROM {
+            return Val::of_list(items);
+        }
+        match SharedItems::of(alloc, items) {
+            Ok(shared) => Val::of(Node::Shared(shared)),
+            Err(items) => Val::of_list(items),
+        }
     }
 
     /// An object of members, which are moved.
@@ -239,14 +274,28 @@ impl Val {
         }
     }
 
-    /// The list that it is.
+    /// The list that it is, whoever else has it.
     pub fn as_list(&self) -> Option<&Items>
         ensures { option_map (λ i. i.now) result ≡ as_list self.now }
     {
-        if let Node::List(items) = &self.node {
-            Some(items)
-        } else {
-            None
+        match &self.node {
+            Node::List(items) => Some(items),
+            Node::Shared(shared) => Some(shared.items()),
+            _ => None,
+        }
+    }
+
+    /// The list that it is, moved; only one that another value has too is copied. What is no list
+    /// comes back.
+    pub fn into_list(self, alloc: Global) -> Result<Result<Items, Val>, OutOfMemory>
+        ensures list { IfOk result (λ found. IfOk found (λ items. as_list self ≡ Some items)) }
+        ensures other { IfOk result (λ found. IfErr found
+            (λ value. (value ≡ self) × (as_list self ≡ None))) }
+    {
+        match self.into_node() {
+            Node::List(items) => Ok(Ok(items)),
+            Node::Shared(shared) => Ok(Ok(shared.into_items(alloc)?)),
+            node => Ok(Err(Val::of(node))),
         }
     }
 
@@ -264,77 +313,71 @@ impl Val {
 }
 
 impl Items {
-    ghost use Rattle.std.specs.Prelude.{◌≡◌, IfOk, IfSome};
+    ghost use Rattle.std.specs.Prelude.{◌≡◌};
 
-    /// A list of at least so many values that is read or copied is shared with its copies.
-    pub const SHARED_FROM: usize = 64;
-
-    /// Takes no memory. Its first copy is made value by value.
+    /// Takes no memory.
     pub fn of(values: Vec<Val>) -> Items
         ensures { result ≡ values.items }
     {
-        Items {
-            hold: Hold::Alone(values),
-        }
+        Items { values }
     }
 
-    /// The same, whose copies take no memory where the values are many. It takes memory once then,
-    /// to count who has them; where there is none, the list is not shared.
-    pub fn shared(alloc: Global, values: Vec<Val>) -> Items
-        ensures { result ≡ values.items }
+    /// The values, in order.
+    pub fn into_vec(self) -> Vec<Val>
+        ensures { result.items ≡ self }
     {
-        if values.len() < Items::SHARED_FROM {
-            return Items::of(values);
-        }
-        match Arc::new(alloc, values) {
-            Ok(values) => Items {
-                hold: Hold::Shared(values),
-            },
-            Err(failed) => Items::of(failed.value),
-        }
-    }
-
-    /// The list once more, without memory, where it is shared and has not too many copies.
-    pub(crate) fn again(&self) -> Option<Items>
-        ensures { IfSome result (λ i. i ≡ self.now) }
-    {
-        match &self.hold {
-            Hold::Alone(_) => None,
-            Hold::Shared(values) => Some(Items {
-                hold: Hold::Shared(Arc::try_clone(values).ok()?),
-            }),
-        }
-    }
-
-    /// The values, in order; copies of them where a copy of the list still has them.
-    pub fn into_vec(self, alloc: Global) -> Result<Vec<Val>, OutOfMemory>
-        ensures { IfOk result (λ vs. vs.items ≡ self) }
-    {
-        let Items { hold } = self;
-        match hold {
-            Hold::Alone(values) => Ok(values),
-            Hold::Shared(values) => unshared(alloc, values),
-        }
+        self.values
     }
 
     /// The values, in order.
     pub fn entries(&self) -> &[Val]
         ensures { result.now ≡ self.now }
     {
-        match &self.hold {
-            Hold::Alone(values) => values,
-            Hold::Shared(values) => values,
-        }
+        &self.values
     }
 }
 
-// The values themselves where nobody else has them, and copies of them otherwise.
-fn unshared(alloc: Global, values: Arc<Vec<Val>>) -> Result<Vec<Val>, OutOfMemory>
-    ensures { IfOk result (λ vs. vs.items ≡ (arc_value values).items) }
-{
-    match Arc::try_unwrap(values) {
-        Ok(values) => Ok(values),
-        Err(values) => copied_values(alloc, &values),
+impl SharedItems {
+    ghost use Rattle.std.specs.Prelude.{◌≡◌, IfOk, IfErr, IfSome};
+
+    /// A list of at least so many values is shared where it is read or copied.
+    pub const FROM: usize = 64;
+
+    /// The list, with one owner. Where there is no memory to count owners, the list comes back.
+    pub fn of(alloc: Global, items: Items) -> Result<SharedItems, Items>
+        ensures ok { IfOk result (λ shared. shared ≡ items) }
+        ensures err { IfErr result (λ back. back ≡ items) }
+    {
+        match Arc::new(alloc, items) {
+            Ok(items) => Ok(SharedItems { items }),
+            Err(failed) => Err(failed.value),
+        }
+    }
+
+    /// The list.
+    pub fn items(&self) -> &Items
+        ensures { result.now ≡ self.now }
+    {
+        &self.items
+    }
+
+    /// The list with one owner more, without memory, where it hasn't too many.
+    pub(crate) fn again(&self) -> Option<SharedItems>
+        ensures { IfSome result (λ shared. shared ≡ self.now) }
+    {
+        Some(SharedItems {
+            items: Arc::try_clone(&self.items).ok()?,
+        })
+    }
+
+    /// The list itself where it has no other owner, and a copy of it otherwise.
+    pub fn into_items(self, alloc: Global) -> Result<Items, OutOfMemory>
+        ensures { IfOk result (λ items. items ≡ self) }
+    {
+        match Arc::try_unwrap(self.items) {
+            Ok(items) => Ok(items),
+            Err(items) => copied_items(alloc, &items),
+        }
     }
 }
 

@@ -11,7 +11,7 @@ ghost use Rattle.m2m_value.specs.Spelling.{text_of, elements_from, pairs_from};
 
 use crate::key::MemberKey;
 use crate::plain::{all_plain, plain_end};
-use crate::value::{Items, Members, Node, Val};
+use crate::value::{Items, Members, Node, SharedItems, Val};
 use itoa::Buffer;
 use std::alloc::AllocError as OutOfMemory;
 
@@ -47,6 +47,7 @@ fn write_value(value: &Val, out: &mut Vec<u8>) -> Result<(), OutOfMemory>
         Node::Text(text) => write_text(text.entries(), out),
         Node::List(items) => write_items(items, out),
         Node::Obj(members) => write_members(members, out),
+        Node::Shared(shared) => write_shared(shared, out),
     }
 }
 
@@ -59,7 +60,7 @@ fn write_items(items: &Items, out: &mut Vec<u8>) -> Result<(), OutOfMemory>
     ensures sound { OnOk result (AreSound (elements_of items.now)) }
 {
     out.push(b'[')?;
-    for (place, value) in items.entries().iter().enumerate() {
+    for (place, value) in items.values.iter().enumerate() {
         write_comma(place, out)?;
         match value.as_num() {
             Some(n) => write_number(n, out)?,
@@ -68,6 +69,16 @@ fn write_items(items: &Items, out: &mut Vec<u8>) -> Result<(), OutOfMemory>
     }
     out.push(b']')?;
     Ok(())
+}
+
+#[cycle(write)]
+fn write_shared(shared: &SharedItems, out: &mut Vec<u8>) -> Result<(), OutOfMemory>
+    ensures ok { OnOk result (out.new.items
+        ≡ out.old.items ++ 91 ∷ (elements_from (elements_of shared.now) 0 ++ 93 ∷ [])) }
+    ensures err { OnErr result (BeginsWith out.old.items out.new.items) }
+    ensures sound { OnOk result (AreSound (elements_of shared.now)) }
+{
+    write_items(shared.items(), out)
 }
 
 #[cycle(write)]

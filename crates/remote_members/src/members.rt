@@ -99,9 +99,9 @@ fn taken_members(value: Val) -> Option<Members>
 fn taken_elements(alloc: Global, value: Val) -> Result<Option<Vec<Val>>, OutOfMemory>
     ensures { IfOk result (λ o. option_map (λ v. v.items) o ≡ as_list value) }
 {
-    match value.into_node() {
-        Node::List(items) => Ok(Some(items.into_vec(alloc)?)),
-        _ => Ok(None),
+    match value.into_list(alloc)? {
+        Ok(items) => Ok(Some(items.into_vec())),
+        Err(_) => Ok(None),
     }
 }
 

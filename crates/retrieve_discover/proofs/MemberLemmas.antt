@@ -1,5 +1,5 @@
 -- A member that is put twice.
-use Rattle.std.proofs.Common.{◌≡◌, ℕ, List, [], ◌∷◌, ◌++◌, Option, Some, None, OnSome, IfNone, IsUtf8, Ordering, Less, Equal, Greater, codes, refl, sym, ap, ◌∙◌, subst}
+use Rattle.std.proofs.Common.{◌≡◌, ℕ, List, [], ◌∷◌, ◌++◌, Option, Some, None, OnSome, IfNone, unwrap_or, IsUtf8, Ordering, Less, Equal, Greater, codes, refl, sym, ap, ◌∙◌, subst}
 use Rattle.std.proofs.lemmas.Cmp.{nat_list_cmp_total, tied_itself}
 use Rattle.std.specs.BTreeMap.{insert_entry}
 use Rattle.std.specs.List.Sorted.{IsStrictlySortedBy}
@@ -7,7 +7,7 @@ use Rattle.std.specs.Ordering.{match_ordering}
 use Rattle.m2m_value.specs.Data.{Data, Entry, elements_of, list, null}
 use Rattle.m2m_names.proofs.NameLemmas.{graphic_is_utf8}
 use Rattle.m2m_value.specs.Node.{AreSorted, HaveTextKeys}
-use Rattle.m2m_value.specs.View.{member_of}
+use Rattle.m2m_value.specs.View.{as_list, member_of}
 use Rattle.m2m_value.proofs.Lookup.{compared, put_texts}
 use Rattle.policy_eval.specs.Rules.{listed_in}
 use Rattle.retrieve_discover.specs.Contents.{with_last}
@@ -24,6 +24,15 @@ again_at Greater key u v e es is more =
 pub put-again : (es : List Entry) (key : List ℕ) (u v : Data) → insert_entry compared (insert_entry compared es key u) key v ≡ insert_entry compared es key v
 put-again [] key u v = ap (λ o. match_ordering o ((key, v) ∷ (key, u) ∷ []) ((key, v) ∷ []) ((key, u) ∷ (key, v) ∷ [])) (tied_itself nat_list_cmp_total key)
 put-again (e ∷ es) key u v = again_at _ key u v e es refl (put-again es key u v)
+
+-- what is listed in a value that is seen as a list, and in one that isn't
+pub listed : (d : Data) (ds : List Data) → as_list d ≡ Some ds → listed_in (Some d) ≡ ds
+listed d ds seen = ap (λ o. unwrap_or o []) seen
+
+pub none_listed : (d : Data) → as_list d ≡ None → listed_in (Some d) ≡ []
+none_listed d seen = ap (λ o. unwrap_or o []) seen
+
+pub ruleset listed_rules = (listed, none_listed)
 
 -- a list of one more, put where the list was taken away, or where none was
 pub listed_last : (taken : Option Data) (key at name : List ℕ) (d v : Data) (objects : List Data) (es mid new : List Entry) → key ≡ name → at ≡ key → taken ≡ member_of at es → objects ≡ listed_in taken ++ d ∷ [] → v ≡ list (elements_of objects)

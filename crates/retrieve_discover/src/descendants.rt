@@ -14,7 +14,7 @@ ghost use Rattle.retrieve_discover.specs.Descendants.{reached_forest};
 use crate::look::{Viewer, may_retrieve, object_members};
 use known_rights::Known;
 use m2m_names::Ty;
-use m2m_value::{Items, MemberKey, Members, Node, Val};
+use m2m_value::{Items, MemberKey, Members, Val};
 use std::alloc::{AllocError as OutOfMemory, Global};
 use tree_model::{Resource, Tree, child_at};
 
@@ -121,11 +121,12 @@ fn taken_elements(alloc: Global, value: Option<Val>) -> Result<Vec<Val>, OutOfMe
     }
 }
 
+#[tactic(auto, using(crate::proofs::MemberLemmas::listed_rules))]
 fn into_elements(alloc: Global, value: Val) -> Result<Vec<Val>, OutOfMemory>
     ensures { IfOk result (λ vs. vs.items ≡ listed_in (Some value)) }
 {
-    match value.into_node() {
-        Node::List(items) => items.into_vec(alloc),
-        _ => Ok(Vec::new(alloc)),
+    match value.into_list(alloc)? {
+        Ok(items) => Ok(items.into_vec()),
+        Err(_) => Ok(Vec::new(alloc)),
     }
 }

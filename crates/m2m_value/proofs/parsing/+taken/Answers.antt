@@ -30,7 +30,7 @@ pub items_taken-returns : goal.items_taken-returns
 items_taken-returns t c =
     let l = c.loop-item in
     let none : into_iter_items l.item-iterator ≡ [] = grind (arith, common_steps) in
-    l.invariant.0 ∙ ap (λ vs. after_kept l.values.items (elements_if (of_items (items_read vs)))) none ∙ ap Ok (onto-none l.values.items ∙ ap elements_of (sym c.shared.ensures))
+    l.invariant.0 ∙ ap (λ vs. after_kept l.values.items (elements_if (of_items (items_read vs)))) none ∙ ap Ok (onto-none l.values.items ∙ ap elements_of (sym c.of.ensures))
 
 pub members_taken-loop-member-init : goal.members_taken-loop-member-init
 members_taken-loop-member-init t c =

@@ -37,7 +37,7 @@ pub kept_items-returns : goal.kept_items-returns
 kept_items-returns t c =
     let l = c.loop-item in
     let none : into_iter_items l.item-iterator ≡ [] = grind (arith, common_steps) in
-    l.invariant ∙ ap (λ vs. after_kept l.values.items (elements_in (items_view vs))) none ∙ ap Ok (onto-none l.values.items ∙ ap elements_of (sym c.shared.ensures))
+    l.invariant ∙ ap (λ vs. after_kept l.values.items (elements_in (items_view vs))) none ∙ ap Ok (onto-none l.values.items ∙ ap elements_of (sym c.of.ensures))
 
 pub kept_members-returns-in_err-kept : goal.kept_members-returns-in_err-kept
 kept_members-returns-in_err-kept t c =

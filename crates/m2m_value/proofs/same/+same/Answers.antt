@@ -1,14 +1,11 @@
-use Rattle.std.proofs.Common.{◌≡◌, rules, arith, sym, ap, ◌∙◌}
-use Rattle.m2m_value.specs.Data.{elements_of, list}
-use Rattle.m2m_value.specs.Node.{data_of}
+use Rattle.std.proofs.Common.{rules, arith, sym}
 use Rattle.m2m_value.specs.Same.{longer_items, longer_members}
-use Rattle.m2m_value.proofs.Nested.{values_below}
+use Rattle.m2m_value.proofs.Nested.{items_below}
 use Rattle.m2m_value.proofs.same.+same.Goals as goal
 
-pub are_same-are_same_items-requires : goal.are_same-are_same_items-requires
-are_same-are_same_items-requires t c =
-    let is : list (elements_of c.in-List-List.a) ≡ c.args.one.now = ap data_of (sym c.in-List-List.is-0) ∙ c.one.view_is in
-    let below = values_below c.entries.result.now c.in-List-List.a c.args.one.now c.entries.ensures is in
+pub is_same_shared-is_same_list-requires : goal.is_same_shared-is_same_list-requires
+is_same_shared-is_same_list-requires t c =
+    let below = items_below c.items.result.now c.args.shared.now c.items.ensures in
     let here = c.decreases in
     (omega (arith, below, here), tt)
 

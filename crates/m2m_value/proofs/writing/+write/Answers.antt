@@ -7,7 +7,7 @@ use Rattle.m2m_value.specs.Spelling.{comma_at, elements_from, text_of}
 use Rattle.m2m_value.specs.View.{as_number}
 use Rattle.m2m_value.proofs.Begins.{begins_after, begins_with_itself, on_err, on_ok_both}
 use Rattle.m2m_value.proofs.Levels.{sound_object}
-use Rattle.m2m_value.proofs.Nested.{value_below}
+use Rattle.m2m_value.proofs.Nested.{items_below}
 use Rattle.m2m_value.proofs.writing.+write.Goals as goal
 use Rattle.m2m_value.proofs.writing.+write.Goals.{write_items-in-Some+in_ok-write_number-in-Some, write_items-in-None+in_ok-write_value-in-None}
 
@@ -34,13 +34,6 @@ one_told items place value before now all next told written =
     let whole : before ++ (comma_at place ++ (text_of value ++ left)) ≡ all = rw next at told in
     ap (λ s. s ++ left) written ∙ append_assoc (before ++ comma_at place) (text_of value) left ∙ append_assoc before (comma_at place) (text_of value ++ left) ∙ whole
 
-pub write_items-write_value-requires : goal.write_items-write_value-requires
-write_items-write_value-requires t c =
-    let place : c.loop-place.place < length c.entries-value-items.result.now = search rules in
-    let below = value_below c.entries-value-items.result.now c.args.items.now c.loop-place.place c.value-item.result c.entries-value-items.ensures place c.value-item.is in
-    let here = c.decreases in
-    (omega (arith, below, here), tt)
-
 pub write_items-returns-in_err-write_number-in-Some-clause-err :
     goal.write_items-returns-in_err-write_number-in-Some-clause-err
 write_items-returns-in_err-write_number-in-Some-clause-err t c =
@@ -55,8 +48,8 @@ write_items-returns-in_err-write_value-in-None-clause-err t c =
 
 pub write_items-loop-place-preserved : goal.write_items-loop-place-preserved
 write_items-loop-place-preserved t c =
-    let below : c.loop-place.place < length c.entries-value-items.result.now = search rules in
-    let next = one_dropped c.entries-value-items.result.now c.loop-place.place c.value-item.result below c.value-item.is in
+    let below : c.loop-place.place < length c.deref-value-items.result.now = search rules in
+    let next = one_dropped c.deref-value-items.result.now c.loop-place.place c.value-item.result below c.value-item.is in
     let comma = c.in_ok-write_comma.ensures.ok in
     elim c.match-as_num.branch [
       | write_items-in-Some+in_ok-write_number-in-Some w ↦
@@ -74,6 +67,12 @@ write_items-loop-place-preserved t c =
           let begins = begins_after _ _ _ c.loop-place.invariant.1 (begins_after _ _ _ (_, comma) (_, written)) in
           rw w.out-is (told, begins, λ rest. c.loop-place.invariant.2 (rw next (w.in_ok-write_value-in-None.ensures.sound, rest)))
     ]
+
+pub write_shared-write_items-requires : goal.write_shared-write_items-requires
+write_shared-write_items-requires t c =
+    let below = items_below c.items.result.now c.args.shared.now c.items.ensures in
+    let here = c.decreases in
+    (omega (arith, below, here), tt)
 
 pub write_members-returns-in_err-write_comma-clause-err : goal.write_members-returns-in_err-write_comma-clause-err
 write_members-returns-in_err-write_comma-clause-err t c =
