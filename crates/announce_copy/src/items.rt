@@ -6,14 +6,14 @@ use crate::drafts::{CopyDraft, CopyDrafts};
 use m2m_value::Text;
 use primitive_json::{Dest, Kind, Note, NoteParts, Request, RequestParts};
 use std::alloc::{AllocError as OutOfMemory, Global};
-use subscription_match::{aim, own_cse_id};
-use tree_model::{Home, Tree};
+use subscription_match::aim;
+use tree_model::{Home, Tree, own_cse_id};
 
 fn request_of(alloc: Global, home: &Home, draft: CopyDraft) -> Result<Request, OutOfMemory>
     requires { IsUtf8 draft.1 }
     ensures { IfOk result (λ r. r ≡ spec.request_of home.now draft) }
 {
-    let fr = own_cse_id(alloc, home, 0)?;
+    let fr = own_cse_id(alloc, home)?;
     let (op, to, ty, pc) = draft;
     Ok(Request::of(RequestParts {
         op,

@@ -21,7 +21,6 @@ use tree_model::{Attrs, Resource, Tree, attributes, content, members_of, shown};
 const ATTRIBUTES: i64 = 1;
 
 // The structured address that a resource has when it comes last.
-#[tactic(auto, using(crate::proofs::TellingLemmas::path_of_last))]
 fn path_to_last<T: Tree>(
     alloc: Global,
     entity: &Entity<T>,
@@ -32,10 +31,8 @@ fn path_to_last<T: Tree>(
         ≡ structured_of resource.now.number (entity.now.nodes ++ resource.now ∷ [])) }
     ensures utf8 { IfOk result (λ t. IsUtf8 t) }
 {
-    let mut path = structured(alloc, &entity.tree, resource.parent())?.into_vec(alloc)?;
-    path.push(b'/')?;
-    path.extend_from_slice(resource.name().entries())?;
-    Ok(Text::of(path))
+    let above = structured(alloc, &entity.tree, resource.parent())?;
+    Text::from_parts(alloc, above.entries(), b"/", resource.name().entries())
 }
 
 fn address_last<T: Tree>(

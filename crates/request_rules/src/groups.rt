@@ -356,7 +356,7 @@ fn push_members(
         ) ∷ []) }
 {
     let alloc = *kept.allocator();
-    rows.push((Attr::Mid, Val::of_list(Items::shared(alloc, kept))))?;
+    rows.push((Attr::Mid, Val::of_shared_list(alloc, Items::of(kept))))?;
     rows.push((Attr::Mt, number_of(type_kept(members, has_other))))?;
     Ok(())
 }

@@ -4,7 +4,6 @@ ghost use Rattle.std.specs.Option.{option_map_or};
 ghost use Rattle.m2m_names.specs.Ids as ids;
 ghost use Rattle.m2m_names.specs.Name.{is_originator};
 ghost use Rattle.m2m_names.specs.declared.types.Ty.TheVariants.{Ae};
-ghost use Rattle.tree_model.specs.Shown.{own_cse_id};
 ghost use Rattle.tree_model.specs.Tree as trees;
 ghost use Rattle.request_rules.specs.Creation as spec;
 ghost use Rattle.request_rules.specs.Creation.{creation_of};
@@ -14,17 +13,7 @@ use entity_model::Entity;
 use m2m_names::{Attr, Ty};
 use m2m_value::{Members, Text};
 use std::alloc::{AllocError as OutOfMemory, Global};
-use tree_model::{Home, Resource, Tree, has_ae, has_channel, has_child, has_cse};
-
-// The own CSE-ID, with its slash.
-fn own_cse_id(alloc: Global, home: &Home) -> Result<Text, OutOfMemory>
-    ensures { IfOk result (λ t. t ≡ own_cse_id home.now) }
-{
-    let mut bytes = Vec::new(alloc);
-    bytes.push(b'/')?;
-    bytes.extend_from_slice(home.csi().entries())?;
-    Ok(Text::of(bytes))
-}
+use tree_model::{Resource, Tree, has_ae, has_channel, has_child, has_cse, own_cse_id};
 
 fn has_free_cse_id<T: Tree>(
     alloc: Global,

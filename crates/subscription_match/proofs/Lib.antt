@@ -6,5 +6,4 @@ pub mod WatchingLemmas
 pub mod HeardLemmas
 pub mod MarkLemmas
 pub mod StepLemmas
-pub mod NamingLemmas
 pub mod UncountedLemmas

@@ -4,12 +4,11 @@ ghost use Rattle.subscription_match.specs.Items as spec;
 
 use crate::destinations::aim;
 use crate::drafts::Draft;
-use crate::naming::own_cse_id;
 use m2m_names::Op;
 use m2m_value::Text;
 use primitive_json::{Dest, Kind, Note, NoteParts, Request, RequestParts};
 use std::alloc::{AllocError as OutOfMemory, Global};
-use tree_model::{Home, Tree};
+use tree_model::{Home, Tree, own_cse_id};
 
 // Puts the item that a draft becomes behind others, for which there is room.
 fn add_item<T: Tree>(
@@ -26,7 +25,7 @@ fn add_item<T: Tree>(
 {
     let draft = draft.into_parts();
     let dest = aim(alloc, tree, home, draft.target.entries())?;
-    let fr = own_cse_id(alloc, home, 0)?;
+    let fr = own_cse_id(alloc, home)?;
     let request = Request::of(RequestParts {
         op: Op::Notify,
         to: draft.target,

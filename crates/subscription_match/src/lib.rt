@@ -16,7 +16,7 @@
 //! draft; that memory runs out leaves everything as it was.
 //!
 //! `first_url`, `cse_named` and `leading_cse_id` also serve requests that go on to another CSE, and
-//! `own_cse_id` and `reference_of` those on announced copies.
+//! `reference_of` those on announced copies.
 //!
 //! ```text
 //! let changes = Changes::of_creation(tree, resource, pushed.entries());
@@ -43,7 +43,7 @@ pub use drafts::{Draft, DraftParts};
 pub use events::EventKind;
 pub use items::items_of;
 pub use laws::{each_that_matches_is_told_once, what_is_kept_and_what_is_left_add_up};
-pub use naming::{own_cse_id, reference_of};
+pub use naming::reference_of;
 pub use noting::{all_notes, counted_notes, notes};
 pub use spending::{left_to, spend};
 pub use std::alloc::AllocError as OutOfMemory;

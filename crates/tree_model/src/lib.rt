@@ -52,7 +52,7 @@ pub use resource_model::{
     ADMIN, AttrSet, Attrs, BASE, CSE_ID, CSE_TYPE, Change, Home, HomeFault, Moments, Resource,
     SERVICE_PROVIDER,
 };
-pub use showing::{attributes, content, members_of, shown, under_type};
+pub use showing::{attributes, content, members_of, own_cse_id, shown, under_type};
 pub use std::alloc::AllocError as OutOfMemory;
 pub use steps::{Steps, child_named};
 pub use tree::Tree;

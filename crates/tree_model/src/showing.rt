@@ -261,11 +261,12 @@ fn id_of_parent<T: Tree>(alloc: Global, tree: &T, resource: &Resource) -> Result
     }
 }
 
-fn own_cse_id(alloc: Global, home: &Home) -> Result<Text, OutOfMemory>
+/// The CSE-ID of this CSE, with its slash (TS-0001, 7.2).
+pub fn own_cse_id(alloc: Global, home: &Home) -> Result<Text, OutOfMemory>
     ensures value { IfOk result (λ t. t ≡ own_cse_id home.now) }
     ensures utf8 { IfOk result (λ t. IsUtf8 t) }
 {
-    Ok(Text::from_parts(alloc, b"/", home.csi().entries(), b"")?)
+    Text::from_parts(alloc, b"/", home.csi().entries(), b"")
 }
 
 fn shown_ty(ty: Ty) -> Val
