@@ -7,10 +7,9 @@ use Rattle.std.proofs.lemmas.List.Elements.{filter-append}
 use Rattle.std.proofs.lemmas.List.Filters.{length-filter_both, sum_by-filter_both}
 use Rattle.std.proofs.lemmas.List.Sums.{sum_by-append, sum_by-cons}
 use Rattle.std.specs.List.{filter, list_any, slice_get, sum_by}
-use Rattle.std.specs.Option.{is_none}
 use Rattle.resource_model.specs.Resource.{ResourceData}
 use Rattle.tree_model.specs.Tree.{has, instance_size}
-use Rattle.container_limits.specs.Limits.{is_within, is_unlimited, do_fit, longest_fit, is_due_by, lasts, goes, kept, evicted, numbers_of}
+use Rattle.container_limits.specs.Limits.{is_within, do_fit, longest_fit, is_due_by, lasts, goes, kept, evicted, numbers_of}
 use Rattle.container_limits.specs.declared.limits.Limits.{Limits}
 use Rattle.tree_model.proofs.OrderLemmas.{are_above, ascend, above_filter, above_lacks, ascend_back, ascend_parts}
 use Rattle.tree_model.proofs.StepLemmas.{drop_step, dropped_none, dropped_some, not_not}
@@ -32,7 +31,7 @@ module _ (mia : Option ℕ) (moment : ℕ) where
   pub sizes_split : (rs : List ResourceData) → sum_by instance_size rs ≡ sum_by instance_size (filter end rs) + sum_by instance_size (filter last rs)
   sizes_split rs = sym (sum_by-filter_both end last (λ r. refl) instance_size rs)
 
-  none_end : (rs : List ResourceData) → list_any end rs ≡ false → filter end rs ≡ []
+  pub none_end : (rs : List ResourceData) → list_any end rs ≡ false → filter end rs ≡ []
   none_end [] none = refl
   none_end (r ∷ rs) none = let parts = or_parts (end r) (list_any end rs) none in rw parts.0 (none_end rs parts.1)
 
@@ -41,7 +40,7 @@ module _ (mia : Option ℕ) (moment : ℕ) where
   all_last [] none = refl
   all_last (r ∷ rs) none = let parts = or_parts (end r) (list_any end rs) none in rw parts.0 (ap (λ (ss : List ResourceData). r ∷ ss) (all_last rs parts.1))
 
-  none_later : (n : ℕ) (rs : List ResourceData) → list_any end rs ≡ false → list_any end (drop n rs) ≡ false
+  pub none_later : (n : ℕ) (rs : List ResourceData) → list_any end rs ≡ false → list_any end (drop n rs) ≡ false
   none_later zero rs none = none
   none_later (suc n) [] none = refl
   none_later (suc n) (r ∷ rs) none = none_later n rs (or_parts (end r) (list_any end rs) none).1
@@ -100,16 +99,6 @@ nothing_left p rs k past = ap (filter p) (drop_all k rs past)
 
 -- ---- what goes
 
--- without limits on their count and sizes, all stay
-unlimited_by : (mni mbs mia new : Option ℕ) (rs : List ResourceData) → (is_none mni && is_none mbs) ≡ true → longest_fit (record { mni = mni; mbs = mbs; mia = mia }) new rs ≡ rs
-unlimited_by None None mia new [] h = refl
-unlimited_by None None mia new (r ∷ rs) h = refl
-unlimited_by None (Some most) mia new rs h = absurd (false≢true h)
-unlimited_by (Some most) mbs mia new rs h = absurd (false≢true h)
-
-pub fit_unlimited : (limits : Limits) (new : Option ℕ) (rs : List ResourceData) → is_unlimited limits ≡ true → longest_fit limits new rs ≡ rs
-fit_unlimited limits new rs h = unlimited_by limits.mni limits.mbs limits.mia new rs h
-
 -- what is kept of some is a suffix of them
 pub longest_is_suffix : (l : Limits) (new : Option ℕ) (rs : List ResourceData) → (front : List ResourceData) × (front ++ longest_fit l new rs ≡ rs)
 longest_is_suffix l new [] = ([], fit_none l new)
@@ -130,12 +119,6 @@ kept_whole l new moment rs order stay =
 pub evicted_fit : (l : Limits) (new : Option ℕ) (moment : ℕ) (rs : List ResourceData) → ascend rs ≡ true → do_fit l new (filter (lasts l.mia moment) rs) ≡ true → evicted l new moment rs ≡ numbers_of (filter (is_due_by l.mia moment) rs)
 evicted_fit l new moment rs order fits = kept_whole l new moment rs order (fit_here l new (filter (lasts l.mia moment) rs) fits)
 
--- and where they may be as many and as large as they are
-pub unlimited_quiet : (l : Limits) (new : Option ℕ) (moment : ℕ) (rs : List ResourceData) → ascend rs ≡ true → is_unlimited l ≡ true → list_any (is_due_by l.mia moment) rs ≡ false → evicted l new moment rs ≡ []
-unlimited_quiet l new moment rs order none_asked none =
-    kept_whole l new moment rs order (fit_unlimited l new (filter (lasts l.mia moment) rs) none_asked)
-    ∙ ap numbers_of (none_end l.mia moment rs none)
-
 -- where they don't fit, the first goes, and then what goes of the rest
 evicted_unfit : (l : Limits) (new : Option ℕ) (moment : ℕ) (r : ResourceData) (rest : List ResourceData) → ascend (r ∷ rest) ≡ true → do_fit l new (filter (lasts l.mia moment) (r ∷ rest)) ≡ false → evicted l new moment (r ∷ rest) ≡ r.number ∷ evicted l new moment rest
 evicted_unfit l new moment r rest order over =
@@ -153,16 +136,18 @@ within_less : (n m : ℕ) (limit : Option ℕ) → m ≤ n → is_within n limit
 within_less n m None less within = refl
 within_less n m (Some most) less within = (let all : n ≤ most = leb-true n most within in le-leb m most (omega arith))
 
+-- what follows the first of what fits does
+pub fit_tail : (l : Limits) (new : Option ℕ) (r : ResourceData) (rs : List ResourceData) → do_fit l new (r ∷ rs) ≡ true → do_fit l new rs ≡ true
+fit_tail l new r rs fits =
+    let both = and_parts (is_within (length (r ∷ rs) + length (option_to_list new)) l.mni) (is_within (sum_by instance_size (r ∷ rs) + unwrap_or new 0) l.mbs) fits in
+    let sum : sum_by instance_size (r ∷ rs) ≡ instance_size r + sum_by instance_size rs = sum_by-cons instance_size r rs in
+    ap (λ b. b && is_within (sum_by instance_size rs + unwrap_or new 0) l.mbs) (within_less (length (r ∷ rs) + length (option_to_list new)) (length rs + length (option_to_list new)) l.mni (omega arith) both.0)
+    ∙ within_less (sum_by instance_size (r ∷ rs) + unwrap_or new 0) (sum_by instance_size rs + unwrap_or new 0) l.mbs (omega (arith, sum)) both.1
+
 -- what is left of what fits does
 fit_less : (l : Limits) (new : Option ℕ) (p : ResourceData → Bool) (r : ResourceData) (rest : List ResourceData) → do_fit l new (filter p (r ∷ rest)) ≡ true → do_fit l new (filter p rest) ≡ true
 fit_less l new p r rest fits = elim (cases_Bool (p r)) [
-  | inl t ↦
-      let ys = filter p rest in
-      let all : do_fit l new (r ∷ ys) ≡ true = rw t at fits in
-      let both = and_parts (is_within (length (r ∷ ys) + length (option_to_list new)) l.mni) (is_within (sum_by instance_size (r ∷ ys) + unwrap_or new 0) l.mbs) all in
-      let sum : sum_by instance_size (r ∷ ys) ≡ instance_size r + sum_by instance_size ys = sum_by-cons instance_size r ys in
-      ap (λ b. b && is_within (sum_by instance_size ys + unwrap_or new 0) l.mbs) (within_less (length (r ∷ ys) + length (option_to_list new)) (length ys + length (option_to_list new)) l.mni (omega arith) both.0)
-      ∙ within_less (sum_by instance_size (r ∷ ys) + unwrap_or new 0) (sum_by instance_size ys + unwrap_or new 0) l.mbs (omega (arith, sum)) both.1
+  | inl t ↦ fit_tail l new r (filter p rest) (rw t at fits)
   | inr f ↦ rw f at fits
 ]
 
@@ -199,14 +184,7 @@ gone_turn l new moment rs k now after all o fits order at_k is rest pushed =
     ∙ ap (λ (ns : List ℕ). now ++ ns) (sym (evicted_turn l new moment rs k o fits order at_k is))
     ∙ rest
 
--- where none is due, and the rest fits, no more goes
-pub gone_quiet : (l : Limits) (new : Option ℕ) (moment : ℕ) (rs : List ResourceData) (k : ℕ) (now all : List ℕ) → ascend rs ≡ true → do_fit l new (filter (lasts l.mia moment) (drop k rs)) ≡ true → list_any (is_due_by l.mia moment) rs ≡ false → now ++ evicted l new moment (drop k rs) ≡ all → now ≡ all
-gone_quiet l new moment rs k now all order fits none rest =
-    let whole : ascend (drop k rs) ≡ true = ascend_back (take k rs) (drop k rs) (ap ascend (take-append-drop k rs) ∙ order) in
-    let nothing : evicted l new moment (drop k rs) ≡ [] = evicted_fit l new moment (drop k rs) whole fits ∙ ap numbers_of (none_end l.mia moment (drop k rs) (none_later l.mia moment k rs none)) in
-    sym (append-nil now) ∙ ap (λ (ns : List ℕ). now ++ ns) (sym nothing) ∙ rest
-
--- nor behind the last
+-- behind the last no more goes
 pub gone_all : (l : Limits) (new : Option ℕ) (moment : ℕ) (rs : List ResourceData) (k : ℕ) (now all : List ℕ) → length rs ≤ k → now ++ evicted l new moment (drop k rs) ≡ all → now ≡ all
 gone_all l new moment rs k now all past rest =
     let nothing : evicted l new moment (drop k rs) ≡ [] = ap (evicted l new moment) (drop_all k rs past) in

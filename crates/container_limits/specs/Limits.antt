@@ -4,7 +4,7 @@ use Rattle.std.specs.Prelude.{filter, find, sum_by, Bool, true, false, not, ◌&
 use Rattle.std.specs.Prelude.{if◌then◌else◌, Option, Some, option_to_list, unwrap_or}
 use Rattle.std.specs.Bool.{OnTrue}
 use Rattle.std.specs.List.{list_any}
-use Rattle.std.specs.Option.{is_none, option_map_or}
+use Rattle.std.specs.Option.{option_map_or}
 use Rattle.m2m_names.specs.declared.attributes.Attr.TheVariants.{Mbs, Mni}
 use Rattle.resource_model.specs.Attributes.{count_at}
 use Rattle.resource_model.specs.Resource.{ResourceData}
@@ -27,10 +27,6 @@ limits_of c = record {
 -- a count, and a sum of sizes, are within the limits
 abbrev pub are_within : Limits → ℕ → ℕ → Bool
 are_within limits count sizes = is_within count limits.mni && is_within sizes limits.mbs
-
--- neither the count nor the sum of sizes has a limit
-abbrev pub is_unlimited : Limits → Bool
-is_unlimited limits = is_none limits.mni && is_none limits.mbs
 
 -- these instances, and one of this size that follows them, if any, are within the limits on their
 -- count and on the sum of their sizes

@@ -1,12 +1,13 @@
 //! What the limits of a container push out.
-ghost use Rattle.std.specs.Prelude.{◌≡◌, ◌≢◌, ◌^◌, ◌<◌, [], ◌∷◌, ◌++◌, length, filter, sum_by};
+ghost use Rattle.std.specs.Prelude.{◌≡◌, ◌≢◌, [], ◌∷◌, ◌++◌, filter, take};
 ghost use Rattle.std.specs.Prelude.{option_map, option_to_list, IfOk, IsTrue, OnOk, OnErr};
-ghost use Rattle.tree_model.specs.Tree.{instances_of, instance_size, is_tree};
-ghost use Rattle.container_limits.specs.Limits.{lasts, goes, evicted, numbers_of};
+ghost use Rattle.tree_model.specs.Tree.{instances_of, is_tree};
+ghost use Rattle.container_limits.specs.Limits.{goes, evicted, numbers_of};
 ghost use Rattle.container_limits.specs.Limits.{IsQuiet};
 
-use crate::instances::{is_quiet, lasting_total, total, with_new, without};
-use crate::limits::{Limits, Total, is_due_by, is_total_within, is_unlimited};
+use crate::instances::{is_quiet, lasting_total, with_new, without};
+use crate::limits::{Limits, is_due_by, is_total_within};
+use crate::outside::outside_count;
 use m2m_value::Numbers;
 use resource_model::Resource;
 use std::alloc::{AllocError as OutOfMemory, Global};
@@ -33,8 +34,7 @@ pub fn evictions<T: Tree>(
     Ok(Numbers::of(gone(alloc, tree, container, limits, new_size, moment, quiet)?))
 }
 
-// Where it is known that none is due, and neither the count nor the sum of sizes has a limit, none
-// is looked at.
+// Where it is known that none is due, the age of none is looked at.
 fn gone<T: Tree>(
     alloc: Global,
     tree: &T,
@@ -51,14 +51,49 @@ fn gone<T: Tree>(
     ensures memory { OnErr result
         (evicted limits new_size moment (instances_of container (T.nodes tree.now)) ≢ []) }
 {
-    if quiet && is_unlimited(limits) {
-        return Ok(Vec::new(alloc));
+    if quiet {
+        let outside = outside_count(tree, container, limits, new_size);
+        return oldest_numbers(alloc, tree, container, outside);
     }
-    some_gone(alloc, tree, container, limits, new_size, moment, quiet)
+    some_gone(alloc, tree, container, limits, new_size, moment)
 }
 
-// The same, by going over the instances once: the oldest ones go until the rest is within the
-// limits, and of the rest those that are due.
+// The numbers of so many of a container's instances, oldest first. None of them is looked at.
+fn oldest_numbers<T: Tree>(
+    alloc: Global,
+    tree: &T,
+    container: u64,
+    count: u64,
+) -> Result<Vec<u64>, OutOfMemory>
+    ensures value { IfOk result (λ v. v.items
+        ≡ numbers_of (take count (instances_of container (T.nodes tree.now)))) }
+    ensures memory { OnErr result
+        (numbers_of (take count (instances_of container (T.nodes tree.now))) ≢ []) }
+{
+    let mut numbers = Vec::new(alloc);
+    for k in 0..count {
+        let number = tree.nth_instance(container, k);
+        push_some(&mut numbers, number)?;
+    }
+    Ok(numbers)
+}
+
+fn push_some(numbers: &mut Vec<u64>, number: Option<u64>) -> Result<(), OutOfMemory>
+    ensures ok { OnOk result (numbers.new.items
+        ≡ numbers.old.items ++ option_to_list number) }
+    ensures memory { OnErr result (option_to_list number ≢ []) }
+{
+    match number {
+        Some(number) => {
+            numbers.push(number)?;
+            Ok(())
+        }
+        None => Ok(()),
+    }
+}
+
+// The same, where some may be due: the oldest ones go until the rest is within the limits, and of
+// the rest those that are due.
 fn some_gone<T: Tree>(
     alloc: Global,
     tree: &T,
@@ -66,46 +101,24 @@ fn some_gone<T: Tree>(
     limits: Limits,
     new_size: Option<u64>,
     moment: u64,
-    quiet: bool,
 ) -> Result<Vec<u64>, OutOfMemory>
     requires tree { IsTrue (is_tree (T.nodes tree.now)) }
-    requires quiet { IsQuiet quiet limits.mia moment (instances_of container (T.nodes tree.now)) }
     ensures value { IfOk result (λ v. v.items
         ≡ evicted limits new_size moment (instances_of container (T.nodes tree.now))) }
     ensures memory { OnErr result
         (evicted limits new_size moment (instances_of container (T.nodes tree.now)) ≢ []) }
 {
-    let lasting = total_of(tree, container, limits.mia, moment, quiet);
+    let lasting = lasting_total(tree, container, limits.mia, moment);
     let mut left = with_new(lasting, new_size);
     let mut numbers = Vec::new(alloc);
     let mut oldest = over_instances(tree, container);
     for k in 0..tree.instance_count(container) {
         let fits = is_total_within(left, limits);
-        if fits && quiet {
-            return Ok(numbers);
-        }
         let instance = oldest.next();
         push_gone(&mut numbers, instance, !fits, limits.mia, moment)?;
         left = without(left, instance, false, limits.mia, moment);
     }
     Ok(numbers)
-}
-
-// The total of those that aren't due.
-fn total_of<T: Tree>(tree: &T, container: u64, mia: Option<u64>, moment: u64, quiet: bool) -> Total
-    requires { IsQuiet quiet mia moment (instances_of container (T.nodes tree.now)) }
-    ensures count { result.count
-        ≡ length (filter (lasts mia moment) (instances_of container (T.nodes tree.now))) }
-    ensures sizes { result.sizes ≡ sum_by instance_size
-        (filter (lasts mia moment) (instances_of container (T.nodes tree.now))) }
-    ensures few { result.count < 2 ^ 64 }
-    ensures small { result.sizes < 2 ^ 127 }
-{
-    if quiet {
-        total(tree, container)
-    } else {
-        lasting_total(tree, container, mia, moment)
-    }
 }
 
 fn push_gone(

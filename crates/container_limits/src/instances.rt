@@ -1,6 +1,6 @@
 //! The instances of a container, one by one, and what they add up to.
 ghost use Rattle.std.specs.Prelude.{◌≡◌, ◌+◌, ◌-◌, ◌^◌, ◌<◌, IsTrue, length, filter, sum_by};
-ghost use Rattle.std.specs.Prelude.{option_map, option_to_list, unwrap_or};
+ghost use Rattle.std.specs.Prelude.{option_map, option_to_list, slice_get, unwrap_or};
 ghost use Rattle.tree_model.specs.Tree.{age_of, instances_of, instance_size, is_tree};
 ghost use Rattle.container_limits.specs.Limits.{lasts, is_in_state, is_age, is_mia_of};
 ghost use Rattle.container_limits.specs.Limits.{IsQuiet};
@@ -16,13 +16,54 @@ fn size(resource: &Resource) -> u64
     resource.attrs().count(Attr::Cs).unwrap_or(0)
 }
 
-fn less(total: Total, resource: &Resource) -> Total
+/// The size of the instance of a container at a place, the oldest first, from 0. Where none stands
+/// there, it is 0.
+pub(crate) fn size_at<T: Tree>(tree: &T, container: u64, k: u64) -> u64
+    ensures { result ≡ sum_by instance_size
+        (option_to_list (slice_get (instances_of container (T.nodes tree.now)) k)) }
+{
+    size_if_any(instance_at(tree, container, k))
+}
+
+fn size_if_any(instance: Option<&Resource>) -> u64
+    ensures { result ≡ sum_by instance_size
+        (option_to_list (option_map (λ r. r.now) instance.entry)) }
+{
+    match instance {
+        Some(instance) => size(instance),
+        None => 0,
+    }
+}
+
+fn instance_at<T: Tree>(tree: &T, container: u64, k: u64) -> Option<&Resource>
+    ensures { option_map (λ r. r.now) result
+        ≡ slice_get (instances_of container (T.nodes tree.now)) k }
+{
+    let number = tree.nth_instance(container, k)?;
+    tree.get(number)
+}
+
+/// The total without one of this size.
+pub(crate) fn less(total: Total, size: u64) -> Total
     ensures count { result.count ≡ total.count - 1 }
-    ensures sizes { result.sizes ≡ total.sizes - instance_size resource.now }
+    ensures sizes { result.sizes ≡ total.sizes - size }
 {
     Total {
         count: total.count.saturating_sub(1),
-        sizes: total.sizes.saturating_sub(size(resource) as u128),
+        sizes: total.sizes.saturating_sub(size as u128),
+    }
+}
+
+/// The total with one of this size besides.
+pub(crate) fn more(total: Total, size: u64) -> Total
+    requires count { total.count + 1 < 2 ^ 128 }
+    requires sizes { total.sizes + size < 2 ^ 128 }
+    ensures count { result.count ≡ total.count + 1 }
+    ensures sizes { result.sizes ≡ total.sizes + size }
+{
+    Total {
+        count: total.count + 1,
+        sizes: total.sizes + size as u128,
     }
 }
 
@@ -54,7 +95,7 @@ pub(crate) fn without(
     match resource {
         Some(resource) => {
             if is_in_state(resource, due, mia, moment) {
-                less(total, resource)
+                less(total, size(resource))
             } else {
                 total
             }
@@ -69,12 +110,11 @@ pub(crate) fn with_new(total: Total, new_size: Option<u64>) -> Total
     requires sizes { total.sizes < 2 ^ 127 }
     ensures count { result.count ≡ total.count + length (option_to_list new_size) }
     ensures sizes { result.sizes ≡ total.sizes + unwrap_or new_size 0 }
+    ensures few { result.count < 2 ^ 128 }
+    ensures small { result.sizes < 2 ^ 128 }
 {
     match new_size {
-        Some(size) => Total {
-            count: total.count + 1,
-            sizes: total.sizes + size as u128,
-        },
+        Some(size) => more(total, size),
         None => total,
     }
 }

@@ -6,8 +6,9 @@
 //! `specs/Limits`, `overdue_numbers` of `specs/Overdue`): numbers in order of creation. What stays
 //! of a container's instances is the longest suffix, in order of creation, of those that aren't due
 //! that is within the limits on their count and on the sum of their sizes; a law says that it fits,
-//! and that no longer one does. Both take memory only for what goes, and look at nothing else where
-//! the tree knows that nothing is due.
+//! and that no longer one does. Both take memory only for what goes. Where the tree knows that
+//! nothing is due, no instance is looked at for its age, and none for its size unless the sum of
+//! sizes has a limit.
 //!
 //! ```text
 //! let limits = Limits::of(container); // its `mni`, `mbs` and `mia`
@@ -21,6 +22,7 @@ mod expiring;
 mod instances;
 mod laws;
 mod limits;
+mod outside;
 
 pub use evicting::evictions;
 pub use expiring::overdue;

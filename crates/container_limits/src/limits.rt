@@ -55,13 +55,6 @@ pub(crate) fn is_total_within(total: Total, limits: Limits) -> bool
     is_within(total.count, limits.mni) && is_within(total.sizes, limits.mbs)
 }
 
-/// Whether neither the count nor the sum of sizes has a limit.
-pub(crate) fn is_unlimited(limits: Limits) -> bool
-    ensures { result ≡ spec.is_unlimited limits }
-{
-    limits.mni.is_none() && limits.mbs.is_none()
-}
-
 fn end_by(resource: &Resource, mia: Option<u64>) -> u64
     ensures { result ≡ trees.end_by mia resource.now }
 {

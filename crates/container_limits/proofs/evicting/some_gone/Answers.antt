@@ -1,11 +1,10 @@
 use Rattle.std.proofs.Common.{◌≡◌, ◌+◌, ◌≤◌, ◌++◌, ℕ, List, length, drop, option_map, option_to_list, unwrap_or, sym, ap, ◌∙◌, arith}
 use Rattle.std.specs.List.{filter}
 use Rattle.m2m_value.proofs.Begins.{on_err}
-use Rattle.std.proofs.lemmas.Bool.{OnTrue_at}
 use Rattle.tree_model.specs.Tree.{is_instance, instances_of}
 use Rattle.tree_model.proofs.OrderLemmas.{tree_ascends, ascend_filter}
 use Rattle.container_limits.specs.Limits.{evicted, lasts}
-use Rattle.container_limits.proofs.LimitLemmas.{count_turn, size_turn, fits_totals, gone_all, gone_quiet, gone_turn}
+use Rattle.container_limits.proofs.LimitLemmas.{count_turn, size_turn, fits_totals, gone_all, gone_turn}
 use Rattle.container_limits.proofs.MemoryLemmas.{going_some}
 use Rattle.container_limits.proofs.PlaceLemmas.{taken}
 use Rattle.container_limits.proofs.evicting.some_gone.Goals as goal
@@ -15,20 +14,10 @@ loop-k-init g c =
     let rs = instances_of c.args.container (g.T.Tree.nodes c.args.tree.now) in
     record {
       rest = c.over_instances-oldest.ensures;
-      count = c.with_new-left.ensures.count ∙ ap (λ n. n + length (option_to_list c.args.new_size)) c.total_of-lasting.ensures.count;
-      sizes = c.with_new-left.ensures.sizes ∙ ap (λ n. n + unwrap_or c.args.new_size 0) c.total_of-lasting.ensures.sizes;
+      count = c.with_new-left.ensures.count ∙ ap (λ n. n + length (option_to_list c.args.new_size)) c.lasting_total-lasting.ensures.count;
+      sizes = c.with_new-left.ensures.sizes ∙ ap (λ n. n + unwrap_or c.args.new_size 0) c.lasting_total-lasting.ensures.sizes;
       numbers = ap (λ (ns : List ℕ). ns ++ evicted c.args.limits c.args.new_size c.args.moment rs) c.new-numbers.ensures.items;
     }
-
-pub returns-then-quiet-clause-value : goal.returns-then-quiet-clause-value
-returns-then-quiet-clause-value g c =
-    let nodes = g.T.Tree.nodes c.args.tree.now in
-    let rs = instances_of c.args.container nodes in
-    let rest = filter (lasts c.args.limits.mia c.args.moment) (drop c.loop-k.k rs) in
-    gone_quiet c.args.limits c.args.new_size c.args.moment rs c.loop-k.k c.loop-k.numbers.items (evicted c.args.limits c.args.new_size c.args.moment rs)
-    (ascend_filter (is_instance c.args.container) nodes (tree_ascends nodes c.requires.tree))
-    (sym (fits_totals c.args.limits c.args.new_size rest c.loop-k.left.count c.loop-k.left.sizes c.loop-k.invariant.count c.loop-k.invariant.sizes) ∙ sym c.is_total_within-fits.ensures ∙ c.if-fits.true)
-    (OnTrue_at c.if-quiet.true c.requires.quiet) c.loop-k.invariant.numbers
 
 pub loop-k-preserved : goal.loop-k-preserved
 loop-k-preserved g c =
