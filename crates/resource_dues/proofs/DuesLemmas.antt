@@ -379,7 +379,7 @@ dues-replaced nodes r before after number when tree stood age told same keeps is
 less_first : (a b : ℕ × ℕ) → entry_cmp a b ≡ Less → a.0 ≤ b.0
 less_first a b less = least_first a b (ap is_gt less)
 
-none_by : (second : ℕ × ℕ) (rest : List (ℕ × ℕ)) (moment : ℕ) → moment < second.0 → AllByRecursion (λ e. entry_cmp second e ≡ Less) rest → (early n : ℕ) → early ≤ moment → is_listed early n rest ≡ true → ⊥
+pub none_by : (second : ℕ × ℕ) (rest : List (ℕ × ℕ)) (moment : ℕ) → moment < second.0 → AllByRecursion (λ e. entry_cmp second e ≡ Less) rest → (early n : ℕ) → early ≤ moment → is_listed early n rest ≡ true → ⊥
 none_by second [] moment late all early n low told = both_ways _ refl told
 none_by second (e ∷ rest) moment late all early n low told = elim (or_cases (tells early n e) _ told) [
   | inl here ↦

@@ -30,6 +30,8 @@ pub struct Named {
     pub(crate) children: NumberMap<Names>,
     pub(crate) aes: Names,
     pub(crate) cses: Names,
+    // A parent whose children have no table, or 0.
+    nameless: u64,
 }
 
 impl Named {
@@ -41,6 +43,7 @@ impl Named {
             children: NumberMap::with_hasher(alloc, seeded),
             aes: Names::new(alloc, seeded),
             cses: Names::new(alloc, seeded),
+            nameless: 0,
         }
     }
 
@@ -56,6 +59,7 @@ impl Named {
         ensures ok { OnOk result (IsNamed (list.now ++ resource.now ∷ []) self.new) }
         ensures err { OnErr result (IsNamed list.now self.new) }
     {
+        self.nameless = 0;
         add_child(alloc, &mut self.children, resource)?;
         add_id(alloc, &mut self.aes, resource.ae_id(), resource.number())?;
         add_id(alloc, &mut self.cses, resource.cse_id(), resource.number())
@@ -72,13 +76,20 @@ impl Named {
         }
     }
 
+    // Where many go, most have one parent, whose children mostly have no table. So a table is looked
+    // for once.
     fn note_child_gone(&mut self, list: &Store, parent: u64)
         ensures { IsNamed list.now self.old → IsNamed list.now self.new }
     {
-        note_gone_child(&mut self.children, list, parent);
+        if parent == self.nameless {
+            return;
+        }
+        if !note_gone_child(&mut self.children, list, parent) {
+            self.nameless = parent;
+        }
     }
 
-    // The same of the names of its children, and of its ids.
+    // Sweeps the names of its children, and the AE-IDs and CSE-IDs.
     fn note_others_gone(&mut self, list: &Store, number: u64)
         ensures { IsNamed list.now self.old → IsNamed list.now self.new }
     {
@@ -269,27 +280,35 @@ fn lets_names_go(children: &mut NumberMap<Names>, list: &Store, parent: u64) -> 
     }
 }
 
-fn note_gone_child(children: &mut NumberMap<Names>, list: &Store, parent: u64)
-    ensures { (p : ℕ) (name : List ℕ) (n : ℕ) → named_at children.old p name ≡ Some n
-        → has n list.now ≡ true → named_at children.new p name ≡ Some n }
-{
-    if notes_child_gone(children, list, parent) {
-        forget_names(children, parent);
-    }
-}
-
-// Whether the parent has a table of names, and none is left in it then.
-fn notes_child_gone(children: &mut NumberMap<Names>, list: &Store, parent: u64) -> bool
+// A child of a parent has gone. Whether the parent had a table of names is told.
+fn note_gone_child(children: &mut NumberMap<Names>, list: &Store, parent: u64) -> bool
     ensures kept { (p : ℕ) (name : List ℕ) (n : ℕ) → named_at children.old p name ≡ Some n
         → has n list.now ≡ true → named_at children.new p name ≡ Some n }
-    ensures none { (name : List ℕ) → result ≡ true → named_at children.new parent name ≡ None }
+    ensures none { (name : List ℕ) → result ≡ false → named_at children.new parent name ≡ None }
+{
+    let Some(is_empty) = notes_child_gone(children, list, parent) else {
+        return false;
+    };
+    if is_empty {
+        forget_names(children, parent);
+    }
+    true
+}
+
+// Whether no name is left then in the table of a parent, where it has one.
+fn notes_child_gone(children: &mut NumberMap<Names>, list: &Store, parent: u64) -> Option<bool>
+    ensures kept { (p : ℕ) (name : List ℕ) (n : ℕ) → named_at children.old p name ≡ Some n
+        → has n list.now ≡ true → named_at children.new p name ≡ Some n }
+    ensures empty { (name : List ℕ) → result ≡ Some true
+        → named_at children.new parent name ≡ None }
+    ensures none { (name : List ℕ) → result ≡ None → named_at children.new parent name ≡ None }
 {
     match children.get_mut(&parent) {
         Some(names) => {
             names.note_gone(list, 0);
-            names.is_empty()
+            Some(names.is_empty())
         }
-        None => false,
+        None => None,
     }
 }
 

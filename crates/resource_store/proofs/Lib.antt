@@ -1,4 +1,5 @@
 pub mod StoreLemmas
 pub mod NextLemmas
+pub mod KnownLemmas
 pub mod LeafLemmas
 pub mod SeededLemmas

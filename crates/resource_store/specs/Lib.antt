@@ -1,3 +1,4 @@
+pub mod Overdue
 pub mod Seeded
 pub mod Slots
 pub mod Store

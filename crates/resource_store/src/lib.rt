@@ -24,7 +24,7 @@ mod sizes;
 mod slots;
 mod store;
 
-pub use overdue::overdue_numbers;
+pub use overdue::{is_first_overdue, overdue_numbers};
 pub use seeded::{NumberMap, Seeded};
 pub use sizes::instance_sizes;
 pub use store::Store;

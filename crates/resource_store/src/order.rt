@@ -70,8 +70,8 @@ pub(crate) fn let_gaps_go(resources: &Slots, order: &mut Vec<u64>, count: u64, g
     }
 }
 
-// Lets the last number go, where its resource has gone, and says so. Where there are no more numbers
-// than resources, none has.
+// Lets the last number go, where its resource has gone, and says so. Where there are no more
+// numbers than resources, none has.
 fn lets_last_go(resources: &Slots, order: &mut Vec<u64>, count: u64, gone: u64) -> bool
     requires { held resources.now.table gone ≡ None }
     ensures kept { KeepsPresent (held resources.now.table) order.old.items order.new.items }

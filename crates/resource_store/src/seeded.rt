@@ -10,7 +10,7 @@ use std::hash::{BuildHasher, Hasher};
 /// A table by number. Which numbers fall together in it hangs on the seed.
 pub type NumberMap<V> = HashMap<u64, V, Seeded>;
 
-// The first digits of pi, to base 16.
+// The first digits of pi behind the point, to base 16.
 const FIRST_STATE: u64 = 0x243f_6a88_85a3_08d3;
 
 // It is odd, and its bits look like chance. With it a number has the hash that std's `FoldHasher`

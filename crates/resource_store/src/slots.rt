@@ -20,12 +20,13 @@ use std::alloc::{AllocError as OutOfMemory, Global};
 const SOME: usize = 16;
 
 /// Resources by their numbers. One that is taken out isn't seen from then on; it stays in its slot
-/// until it is freed by what is done later. So to take out many is short: none of them is moved, and
-/// to free one takes as long as to take it out.
+/// until it is freed by what is done later. So taking out many is quick: none is moved, and freeing
+/// one, which takes as long, is done later.
 #[derive(Drop)]
 pub(crate) struct Slots {
     table: NumberMap<Slot>,
-    // The numbers of those that were taken out.
+    // The numbers of those that were taken out. One may stand twice, or have another resource by
+    // now.
     gone: Vec<u64>,
 }
 
@@ -48,7 +49,8 @@ impl Slot {
     }
 
     fn restamp(&mut self, lt: u64, st: u64)
-        requires there { (r : ResourceData) → seen self.old ≡ Some r → IsSome (value_of St r.attrs) }
+        requires there { (r : ResourceData) → seen self.old ≡ Some r
+            → IsSome (value_of St r.attrs) }
         requires lt { lt ≤ last_moment }
         requires st { st < count_bound }
         ensures { seen self.new ≡ option_map (restamped lt st) (seen self.old) }
@@ -82,6 +84,7 @@ impl Slots {
     }
 
     /// The resource of a number.
+    #[inline(always)]
     pub(crate) fn get(&self, number: u64) -> Option<&Resource>
         ensures { option_map (λ r. r.now) result ≡ held self.now.table number }
     {
@@ -92,6 +95,7 @@ impl Slots {
     }
 
     /// Whether there is a resource of a number.
+    #[inline(always)]
     pub(crate) fn has(&self, number: u64) -> bool
         ensures { result ≡ is_some (held self.now.table number) }
     {
@@ -115,11 +119,12 @@ impl Slots {
         }
     }
 
-    /// Takes out the resource of a number, and says whether there was one. Where there is no room to
-    /// note that, it is freed at once.
+    /// Takes out the resource of a number, and says whether there was one. Where there is no room
+    /// to note that, it is freed at once.
     pub(crate) fn take_out(&mut self, number: u64) -> bool
         ensures was { result ≡ is_some (held self.old.table number) }
-        ensures left { (n : ℕ) → held self.new.table n ≡ if nat_eq number n then None else held self.old.table n }
+        ensures left { (n : ℕ) → held self.new.table n
+            ≡ if nat_eq number n then None else held self.old.table n }
     {
         if !hide(&mut self.table, number) {
             return false;
@@ -130,8 +135,8 @@ impl Slots {
         true
     }
 
-    /// Frees some of those that were taken out, the last first, and behind the last one the room for
-    /// many numbers.
+    /// Frees some of those that were taken out, the last first, and behind the last one the room
+    /// for many numbers.
     pub(crate) fn free_some(&mut self)
         ensures { (n : ℕ) → held self.new.table n ≡ held self.old.table n }
     {

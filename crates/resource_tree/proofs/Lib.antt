@@ -3,3 +3,5 @@ pub mod IndexLemmas
 pub mod KinLemmas
 pub mod Sent
 pub mod RemovalLemmas
+pub mod GatheringLemmas
+pub mod OverdueLemmas

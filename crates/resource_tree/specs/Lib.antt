@@ -1,3 +1,4 @@
+pub mod Gathering
 pub mod Index
 pub mod Indexed
 pub mod Queue

@@ -3,16 +3,21 @@ ghost use Rattle.std.specs.Prelude.{◌≡◌, [], ◌∷◌, IfOk};
 
 use crate::kin::{Kin, count_of_kin, is_of, kin_at, kin_last};
 use crate::sums::known_sum;
-use m2m_names::Ty;
+use m2m_names::{LAST_MOMENT, Ty};
 use m2m_value::Numbers;
 use resource_dues::{Dues, due_of, has_come};
 use resource_model::Resource;
 use resource_names::Named;
-use resource_store::{Seeded, Store, instance_sizes, overdue_numbers};
+use resource_store::{Seeded, Store, instance_sizes, is_first_overdue, overdue_numbers};
 use std::alloc::{AllocError as OutOfMemory, Global};
 use std::marker::Model;
 use std::sync::ledger::Ledger;
 use tree_model::{Steps, Tree};
+
+// Where there are more than so many times as many resources as entries up to a moment, what is
+// overdue then is found by these entries. Each of them may have all levels above it looked at, and
+// there are at most 32, so that a walk over all resources takes as long at least.
+const PART: u64 = 32;
 
 /// A tree that knows the children of each resource, those of three types, their names, and what the
 /// sizes of instances add up to, so that none is sought.
@@ -93,7 +98,7 @@ impl IndexTree {
         count_of_kin(&self.kin.children, number) == 0
     }
 
-    // The same, where something stands below it: the newest goes first.
+    // Removes a resource below which something stands, and all of that, the newest first.
     fn remove_branch(&mut self, number: u64)
         ensures value { self.new ≡ without (has_number number) self.old }
         ensures tree { IsTrue (is_tree self.old) }
@@ -160,8 +165,8 @@ impl IndexTree {
         self.list.free_some()
     }
 
-    // Removes the resources of these numbers, the last of them first: what stands behind it has gone
-    // then, so that the table of places lets its last go, and is never gone through.
+    // Removes the resources of these numbers, the last of them first: what stands behind it has
+    // gone then, so that the table of places lets its last go, and is never gone through.
     fn remove_several(&mut self, numbers: &[u64])
         ensures { self.new ≡ without_all numbers.now self.old }
     {
@@ -237,8 +242,7 @@ impl IndexTree {
     fn is_due_leaf(&self, number: u64, moment: u64) -> bool
         ensures { IsTrue result → IsDueLeaf number moment self.now }
     {
-        count_of_kin(&self.kin.children, number) == 0
-            && has_come(due_of(&self.list, number), moment)
+        self.is_leaf(number) && has_come(due_of(&self.list, number), moment)
     }
 
     // The number of what is overdue at a moment, where that is one resource.
@@ -277,6 +281,117 @@ impl IndexTree {
         ensures { self.new ≡ self.old }
     {
         self.dues.refresh(self.alloc, &self.list)
+    }
+}
+
+// What is overdue, by the entries.
+impl IndexTree {
+    ghost use Rattle.std.specs.Prelude.{◌≡◌, ◌≢◌, ◌<◌, [], IsTrue, IfOk, IfSome, OnOk, OnErr};
+    ghost use Rattle.m2m_names.specs.Stamps.{last_moment};
+    ghost use Rattle.tree_model.specs.Tree.{has, is_tree, overdue_numbers};
+    ghost use Rattle.resource_store.specs.Overdue.{is_overdue};
+    ghost use Rattle.resource_tree.specs.Gathering as spec;
+
+    // The numbers of what is overdue at a moment, where the entries tell it and few are up to it. No
+    // other resource is looked at.
+    fn told_overdue(&self, alloc: Global, moment: u64) -> Result<Option<Vec<u64>>, OutOfMemory>
+        ensures value { IfOk result (λ found. IfSome found
+            (λ v. v.items ≡ overdue_numbers moment self.now)) }
+        ensures memory { OnErr result (overdue_numbers moment self.now ≢ []) }
+    {
+        if !self.dues.whole || !self.are_few_told(moment) {
+            return Ok(None);
+        }
+        let told = self.gather_told(alloc, &self.dues, moment)?;
+        let Some(found) = told else {
+            return Ok(None);
+        };
+        let mut numbers = found;
+        numbers.sort_unstable();
+        numbers.dedup();
+        Ok(Some(numbers))
+    }
+
+    // Whether there are few entries up to a moment, among so many resources.
+    fn are_few_told(&self, moment: u64) -> bool
+        ensures { IsTrue result → moment < last_moment }
+    {
+        if LAST_MOMENT <= moment {
+            return false;
+        }
+        let mut left = self.list.len() / PART;
+        let mut entries = self.dues.moments.iter();
+        while let Some(told) = entries.next() {
+            if moment < told.0 {
+                return true;
+            }
+            if left == 0 {
+                return false;
+            }
+            left -= 1;
+        }
+        true
+    }
+
+    // The numbers of what is overdue, of those that the entries up to a moment tell. A resource that
+    // several of them tell is gathered for each: it gives up where there are more numbers than
+    // resources.
+    fn gather_told(
+        &self,
+        alloc: Global,
+        dues: &Dues,
+        moment: u64,
+    ) -> Result<Option<Vec<u64>>, OutOfMemory>
+        requires { IsTrue (is_tree self.now) }
+        ensures ok { IfOk result (λ found. IfSome found
+            (λ v. spec.GathersTold moment dues.now.moments.keys self.now v.items)) }
+        ensures memory { OnErr result (overdue_numbers moment self.now ≢ []) }
+    {
+        let mut numbers = Vec::new(alloc);
+        let mut entries = dues.moments.iter();
+        while let Some(entry) = entries.next() {
+            if moment < entry.0 {
+                return Ok(Some(numbers));
+            }
+            if numbers.len() as u64 > self.len() {
+                return Ok(None);
+            }
+            self.gather_first(entry.1, moment, &mut numbers)?;
+        }
+        Ok(Some(numbers))
+    }
+
+    // Gathers the number of a resource that is due, and those of all that stands below it. Where it
+    // stands under a resource that is overdue, it gathers none: they are gathered with that one.
+    fn gather_first(
+        &self,
+        number: u64,
+        moment: u64,
+        numbers: &mut Vec<u64>,
+    ) -> Result<(), OutOfMemory>
+        ensures ok { OnOk result
+            (spec.GathersFirst moment number self.now numbers.old.items numbers.new.items) }
+        ensures memory { OnErr result (IsTrue (is_overdue moment self.now number)) }
+    {
+        if is_first_overdue(&self.list, number, moment) {
+            self.gather(number, numbers)?;
+        }
+        Ok(())
+    }
+
+    // Puts the numbers of a resource and of all that stands below it behind others.
+    fn gather(&self, number: u64, numbers: &mut Vec<u64>) -> Result<(), OutOfMemory>
+        requires { IsTrue (has number self.now) }
+        ensures { OnOk result (spec.Gathers number self.now numbers.old.items numbers.new.items) }
+    {
+        numbers.push(number)?;
+        for place in 0..self.len() {
+            let Some(kid) = self.kid(number, place) else {
+                return Ok(());
+            };
+            self.gather(kid, numbers)?;
+        }
+        Ok(())
     }
 }
 
@@ -375,6 +490,9 @@ impl Tree for IndexTree {
         }
         if let Some(number) = self.only_overdue(moment) {
             return one_number(alloc, number);
+        }
+        if let Some(numbers) = self.told_overdue(alloc, moment)? {
+            return Ok(Numbers::of(numbers));
         }
         Ok(Numbers::of(overdue_numbers(alloc, &self.list, moment)?))
     }

@@ -344,7 +344,7 @@ pub(crate) fn take_kin(kin: &mut NumberMap<Queue>, parent: u64, number: u64)
     let _last = takes_last(kin, parent, number);
 }
 
-// The same, and whether the parent has none then.
+// Takes a number from those of a parent, as take_kin does, and tells whether none is left.
 fn takes_last(kin: &mut NumberMap<Queue>, parent: u64, number: u64) -> bool
     ensures { (p : ℕ) → queue_at kin.new p
         ≡ if nat_eq parent p then without_number number (queue_at kin.old p)
@@ -357,7 +357,7 @@ fn takes_last(kin: &mut NumberMap<Queue>, parent: u64, number: u64) -> bool
     is_last
 }
 
-// The same of a row, where it is one of these.
+// Takes a row's number from those of its parent, where the row is one of these.
 fn take_if(kin: &mut NumberMap<Queue>, is_one: bool, row: KinRow)
     ensures { (p : ℕ) → queue_at kin.new p ≡ if nat_eq row.parent p && is_one
         then without_number row.number (queue_at kin.old p) else queue_at kin.old p }

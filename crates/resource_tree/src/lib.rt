@@ -8,11 +8,12 @@
 //! grows at its end), with the sum of the sizes of its instances. `kid`, `sub`, `channel`,
 //! `instance`, `nth_instance`, `instance_count` and `instance_sizes` ask these. `child`, `ae` and
 //! `cse` ask tables of names (`resource_names`). `quiet_until`, `due_numbers` and `expire` ask
-//! moments in order (`resource_dues`). What goes, goes one by one, each resource after all that
-//! stands below it, so that a removal looks at no other than those that go. The invariant says that
-//! the list is a tree, that queues and sums are what the definitions say of it (`HasKin` of
-//! `specs/Index`), that the names find its resources, and that of each is told when it is due
-//! (`IsIndexed` of `specs/Indexed`).
+//! moments in order (`resource_dues`). Where few of these are up to a moment, what is overdue then
+//! is gathered from what they tell down to all below it (`specs/Gathering`). What goes, goes one
+//! by one, each resource after all that stands below it, so that a removal looks at no other than
+//! those that go. The invariant says that the list is a tree, that queues and sums are what the
+//! definitions say of it (`HasKin` of `specs/Index`), that the names find its resources, and that
+//! of each is told when it is due (`IsIndexed` of `specs/Indexed`).
 //!
 //! ```text
 //! let mut tree = IndexTree::new(alloc);

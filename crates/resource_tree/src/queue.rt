@@ -73,7 +73,8 @@ impl Queue {
         }
     }
 
-    // Where a number stands. Most that go alone stand at the front, so that is tried first.
+    // Where a number stands. One that goes alone mostly stands at the front, so that is tried
+    // first.
     fn place_of(&self, number: u64) -> Option<usize>
         ensures { MatchOption result (without_number number self.now ≡ self.now)
             (λ at. slice_get self.now at ≡ Some number) }

@@ -4,6 +4,7 @@ use Rattle.std.specs.List.{filter}
 use Rattle.m2m_value.proofs.Begins.{on_err}
 use Rattle.resource_model.specs.Resource.{ResourceData}
 use Rattle.tree_model.specs.Tree.{has, live, numbers_of, overdue_numbers}
+use Rattle.resource_store.proofs.KnownLemmas.{knows}
 use Rattle.resource_store.proofs.NextLemmas.{over_some, over_turn, picked_at}
 use Rattle.resource_store.proofs.overdue.overdue_numbers.Goals as goal
 
@@ -37,3 +38,9 @@ returns-clause-value c =
     sym (append-nil c.loop-number.overdue.items)
     ∙ ap (λ (ms : List ℕ). c.loop-number.overdue.items ++ picked_at goes c.args.store.now ms) (sym none)
     ∙ c.loop-number.invariant
+
+pub push_if_overdue-requires : goal.push_if_overdue-requires
+push_if_overdue-requires c = λ tree r found.
+    let ns : List ℕ = c.numbers-number-items.result.now in
+    let split = drop_more ns c.loop-number.number-index 0 (omega (arith, c.loop-number-test.true)) in
+    knows c.args.store.now c.args.moment tree ns c.loop-number.overdue.items (drop (c.loop-number.number-index + 1) ns) c.loop-number.number-index (get_or ns c.loop-number.number-index 0) r c.numbers-number-items.ensures split c.loop-number.invariant found

@@ -9,7 +9,7 @@ pub returns-in_err-add_id-clause-err : goal.returns-in_err-add_id-clause-err
 returns-in_err-add_id-clause-err c =
     let nodes = c.args.list.now in
     let r = c.args.resource.now in
-    let P : Type 0 = IsNamed nodes (record { children = c.add_child.new.children; aes = c.add_id.new.ids; cses = c.args.self.now.cses }) in
+    let P : Type 0 = IsNamed nodes (record { children = c.add_child.new.children; aes = c.add_id.new.ids; cses = c.args.self.now.cses; nameless = 0 }) in
     any_err c.from_residual-in_err-add_id.result P (record {
       children = names_before nodes r c.requires.next c.add_child.new.children (names_grown nodes r c.requires.next c.args.self.now.children c.add_child.new.children c.requires.named.children c.in_ok-add_child.ensures.ok);
       aes = ids_same ae_id nodes c.args.self.now.aes c.add_id.new.ids c.in_err-add_id.ensures.err c.requires.named.aes;
@@ -20,7 +20,7 @@ pub returns-clause-ok : goal.returns-clause-ok
 returns-clause-ok c =
     let nodes = c.args.list.now in
     let r = c.args.resource.now in
-    let P : Type 0 = IsNamed (nodes ++ r ∷ []) (record { children = c.add_child.new.children; aes = c.add_id.new.ids; cses = c.add_id-2.new.ids }) in
+    let P : Type 0 = IsNamed (nodes ++ r ∷ []) (record { children = c.add_child.new.children; aes = c.add_id.new.ids; cses = c.add_id-2.new.ids; nameless = 0 }) in
     on_ok c.add_id-2.result _ P c.add_id-2.ensures.ok (λ adds. record {
       children = names_grown nodes r c.requires.next c.args.self.now.children c.add_child.new.children c.requires.named.children c.in_ok-add_child.ensures.ok;
       aes = ids_added nodes r c.requires.next ae_id c.args.self.now.aes c.add_id.new.ids _ c.number.result (next_fits nodes r c.requires.next).ae c.ae_id.ensures c.number.ensures.value c.requires.named.aes c.in_ok-add_id.ensures.ok;
@@ -31,7 +31,7 @@ pub returns-clause-err : goal.returns-clause-err
 returns-clause-err c =
     let nodes = c.args.list.now in
     let r = c.args.resource.now in
-    let P : Type 0 = IsNamed nodes (record { children = c.add_child.new.children; aes = c.add_id.new.ids; cses = c.add_id-2.new.ids }) in
+    let P : Type 0 = IsNamed nodes (record { children = c.add_child.new.children; aes = c.add_id.new.ids; cses = c.add_id-2.new.ids; nameless = 0 }) in
     on_err c.add_id-2.result _ P c.add_id-2.ensures.err (λ same. record {
       children = names_before nodes r c.requires.next c.add_child.new.children (names_grown nodes r c.requires.next c.args.self.now.children c.add_child.new.children c.requires.named.children c.in_ok-add_child.ensures.ok);
       aes = ids_before nodes r c.requires.next ae_id c.add_id.new.ids (ids_added nodes r c.requires.next ae_id c.args.self.now.aes c.add_id.new.ids _ c.number.result (next_fits nodes r c.requires.next).ae c.ae_id.ensures c.number.ensures.value c.requires.named.aes c.in_ok-add_id.ensures.ok);
