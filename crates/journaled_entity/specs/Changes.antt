@@ -39,8 +39,8 @@ may_change_by Tick took_one outcome = false
 abbrev pub may_change : EntityData → Event → Outcome → EntityData → Bool
 may_change expired event outcome after = may_change_by event (took expired outcome after) outcome
 
--- nothing is changed by the event but by an expiry, unless a poll takes an item: time passes, or it
--- is a Retrieve
+-- a Retrieve, or the passing of time: neither changes more than an expiry does, unless a poll takes
+-- an item
 abbrev pub reads_alone : Event → Bool
 reads_alone (Ask request) = retrieves request.op
 reads_alone Take = false

@@ -8,11 +8,11 @@
 //! What may have changed something more than an expiry does is written down as itself, at the
 //! moment that the entity has after it: what was served and is no Retrieve, and what took an item
 //! of the outbox, as the machine tells (specs/Changes). An expiry by which resources or items came
-//! or went is written down as such. Nothing else is written. Where the moment stands still nothing
-//! expires, and a Retrieve changes nothing unless it takes an item: there the items are counted
-//! before and after it, and nothing else is looked at. A request that wouldn't be read back as it
-//! is isn't done, and is answered as one for which memory ran out. `open_kept` opens an entity at
-//! its journal, as an object that is kept in it; a file that is refused is given back.
+//! or went is written down as such. Nothing else is written. In the second of the last event
+//! nothing expires, and a Retrieve changes nothing unless it takes an item. So there only the items
+//! are counted, before and after it. A request that wouldn't be read back as it is isn't done, and
+//! is answered as one for which memory ran out. `open_kept` opens an entity at its journal, as an
+//! object that is kept in it; a file that is refused is given back.
 //!
 //! Its events are those of the crate journal_events. To tell which item is to be sent writes
 //! nothing of it, so that a crash leaves the item in the outbox. Its taking is written down once it

@@ -332,7 +332,8 @@ impl<T: Tree> Journaled<T> {
     }
 
     /// Takes a step at a moment that stands still for an event by which nothing changes then, unless
-    /// a poll takes an item. Nothing is written.
+    /// a poll takes an item. Nothing is written. None where a poll took an item, or where memory cut
+    /// a fan-out short.
     #[inline(always)]
     fn record_still(&mut self, reading: u64, event: &Event) -> Option<Came>
         requires still { cut reading ≤ self.old.last }
@@ -342,7 +343,7 @@ impl<T: Tree> Journaled<T> {
         ensures same { IfSome result (λ _. self.new ≡ self.old) }
     {
         let waiting = self.items();
-        // The reply is taken from where it stands: an outcome has many bytes more.
+        // A reply alone is moved here: an outcome has many more bytes.
         let reply = match step(self.alloc, &mut self.entity, reading, event) {
             Outcome::Done(reply) => reply,
             other => return hand_unserved_on(self.alloc, other),
