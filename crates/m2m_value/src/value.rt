@@ -144,7 +144,7 @@ impl Model for Members {
 }
 
 impl Val {
-    ghost use Rattle.std.specs.Prelude.{◌≡◌, ◌↔◌, IsTrue, IfOk, IfErr, IfSome, Some};
+    ghost use Rattle.std.specs.Prelude.{◌≡◌, ◌≢◌, ◌↔◌, IsTrue, IfOk, IfErr, IfSome, OnErr, Some};
     ghost use Rattle.std.specs.Prelude.{None, IsUtf8, option_map};
     ghost use Rattle.m2m_value.specs.Data as plain;
     ghost use Rattle.m2m_value.specs.Data.{elements_of, pairs_of};
@@ -291,6 +291,8 @@ impl Val {
         ensures list { IfOk result (λ found. IfOk found (λ items. as_list self ≡ Some items)) }
         ensures other { IfOk result (λ found. IfErr found
             (λ value. (value ≡ self) × (as_list self ≡ None))) }
+        // What is no list needs no memory.
+        ensures memory { OnErr result (as_list self ≢ None) }
     {
         match self.into_node() {
             Node::List(items) => Ok(Ok(items)),
