@@ -1,226 +1,25 @@
--- The numbers that are gathered from child to child are those of a resource and of all that stands below it.
-use Rattle.std.specs.Prelude.{nat_eq, slice_get, ◌==◌, ◌⊎◌}
-use Rattle.std.proofs.Common.{◌≡◌, ℕ, zero, suc, ◌+◌, ◌<◌, ◌≤◌, List, [], ◌∷◌, ◌++◌, length, Bool, true, false, ◌&&◌, ◌||◌, Option, Some, None, inl, inr, refl, sym, ap, ◌∙◌, subst, arith}
-use Rattle.std.proofs.lemmas.Bool.{and_parts, both_ways, cases_Bool, cases_lt, eq-eqb, eqb-true, or_cases, or_left, or_right}
-use Rattle.std.proofs.lemmas.List.Filters.{dedup_is}
-use Rattle.std.proofs.lemmas.List.Folds.{list_any-append}
-use Rattle.std.proofs.lemmas.List.Kept.{Contains-dedup_nat, Contains-from_dedup}
-use Rattle.std.proofs.lemmas.List.Sorted.{Contains-permutation, IsPermutation-sym}
-use Rattle.std.proofs.lemmas.Map.Keys.{IsStrictlyIncreasing-dedup, sorted_from_strictly_increasing}
-use Rattle.std.proofs.lemmas.Map.Views.{Contains-from_any, list_any-from_Contains}
-use Rattle.std.proofs.lemmas.Option.{same_Some}
-use Rattle.std.specs.Cmp.{IsEquivalence}
-use Rattle.std.specs.List.{AllByRecursion, Contains, dedup, filter, list_any}
+-- The numbers that were gathered, in order and each once, are those of a resource and of all that stands below it.
+use Rattle.std.specs.Prelude.{nat_eq}
+use Rattle.std.proofs.Common.{◌≡◌, ℕ, List, [], true, false, ◌&&◌, inl, inr, refl, sym, ◌∙◌}
+use Rattle.std.proofs.lemmas.Bool.{and_parts, both_ways, cases_Bool}
+use Rattle.std.specs.List.{filter, list_any}
 use Rattle.std.specs.List.Retain.{DiffersFromLast, IsFiltered}
-use Rattle.std.specs.List.Sorted.{IsPermutation, IsSorted, IsStrictlySortedBy}
+use Rattle.std.specs.List.Sorted.{IsPermutation, IsSorted}
 use Rattle.std.specs.Ordering.{nat_cmp}
-use Rattle.std.specs.declared.cmp.Ordering.TheVariants.{Less}
-use Rattle.resource_model.specs.Resource.{ResourceData, has_number}
-use Rattle.tree_model.specs.Tree.{at, children_of, has, is_at_or_below, is_tree, is_under, line_of, number_at, numbers_of, resource_number, DoAscend}
-use Rattle.tree_model.proofs.GrowthLemmas.{ascending_from_tree, has-filter, stands}
+use Rattle.resource_model.specs.Resource.{ResourceData}
+use Rattle.tree_model.specs.Tree.{has, is_at_or_below, is_tree, Gathers}
+use Rattle.tree_model.proofs.AmongLemmas.{among_numbers, both_hold, found_left, left_ascends, left_found, same_numbers}
+use Rattle.tree_model.proofs.BelowLemmas.{in_line, no_line}
+use Rattle.tree_model.proofs.GrowthLemmas.{ascending_from_tree, has-filter}
 use Rattle.tree_model.proofs.ManyLemmas.{ascending_filter}
-use Rattle.tree_model.proofs.NumberLemmas.{less_is}
-use Rattle.tree_model.proofs.OrderLemmas.{child_under, number_some, placed_stands}
-use Rattle.tree_model.proofs.TreeLemmas.{at_has, at_none, at_number, has_from_at}
-use Rattle.create_delete.specs.Telling.{numbers_below, Gathers}
-use Rattle.create_delete.proofs.KeptLemmas.{among_numbers, eqb_sym}
-use Rattle.create_delete.proofs.SilentLemmas.{child_in_line, found_place, in_line, no_line, none_past, up_line}
-
--- ---- one number more
-
-last_in : (n : ℕ) (ns : List ℕ) → list_any (nat_eq n) (ns ++ n ∷ []) ≡ true
-last_in n ns = list_any-append (nat_eq n) ns (n ∷ []) ∙ or_right _ _ (or_left _ _ (eq-eqb n n refl))
-
-front_in : (m n : ℕ) (ns : List ℕ) → list_any (nat_eq m) ns ≡ true → list_any (nat_eq m) (ns ++ n ∷ []) ≡ true
-front_in m n ns t = list_any-append (nat_eq m) ns (n ∷ []) ∙ or_left _ _ t
-
-one_of : (m n : ℕ) (ns : List ℕ) → list_any (nat_eq m) (ns ++ n ∷ []) ≡ true → (list_any (nat_eq m) ns ≡ true) ⊎ (m ≡ n)
-one_of m n ns t = elim (or_cases (list_any (nat_eq m) ns) (list_any (nat_eq m) (n ∷ [])) (sym (list_any-append (nat_eq m) ns (n ∷ [])) ∙ t)) [
-  | inl front ↦ inl front
-  | inr last ↦ elim (or_cases (nat_eq m n) false last) [
-    | inl own ↦ inr (eqb-true m n own)
-    | inr none ↦ absurd (both_ways false refl none)
-  ]
-]
-
--- ---- along a tree
-
--- the resource of the number and the children before this place are gathered, with all below these
-pub record GathersUpTo (nodes : List ResourceData) (n place : ℕ) (old new : List ℕ) : Type 0 where
-  pub own : list_any (nat_eq n) new ≡ true
-  pub keeps : (m : ℕ) → list_any (nat_eq m) old ≡ true → list_any (nat_eq m) new ≡ true
-  pub finds : (k c : ℕ) → k < place → Some c ≡ number_at k (children_of n nodes) → (m : ℕ) → list_any (has_number c) (line_of m nodes) ≡ true → list_any (nat_eq m) new ≡ true
-  pub only : (m : ℕ) → list_any (nat_eq m) new ≡ true → (list_any (nat_eq m) old ≡ true) ⊎ (list_any (has_number n) (line_of m nodes) ≡ true)
-
-module _ (nodes : List ResourceData) (tree : is_tree nodes ≡ true) where
-  -- a resource is in its own line
-  own_line : (n : ℕ) → has n nodes ≡ true → in_line nodes tree n n ≡ true
-  own_line n there = by (at n nodes) refl
-    where
-      by : (o : Option ResourceData) → at n nodes ≡ o → in_line nodes tree n n ≡ true
-      by None is = absurd (both_ways (has n nodes) (has_from_at n nodes is) there)
-      by (Some r) is = up_line nodes tree n n r is ∙ or_left _ _ (eq-eqb r.number n (at_number n nodes r is))
-
-  -- what stands below a child stands below its parent
-  module _ (n : ℕ) (there : has n nodes ≡ true) (c : ResourceData) (found : at c.number nodes ≡ Some c) (under : c.parent ≡ n) where
-    by_found : (k m : ℕ) → m < suc k → ((s : ResourceData) → s.parent < k → in_line nodes tree c.number s.parent ≡ true → in_line nodes tree n s.parent ≡ true) → in_line nodes tree c.number m ≡ true → (o : Option ResourceData) → at m nodes ≡ o → in_line nodes tree n m ≡ true
-    by_found k m less above t None is = absurd (both_ways _ (no_line nodes tree c.number m is) t)
-    by_found k m less above t (Some s) is =
-        let number : s.number ≡ m = at_number m nodes s is in
-        let lower : s.parent < m = (stands nodes tree m s is).above in
-        up_line nodes tree n m s is ∙ or_right _ _ (elim (or_cases (has_number c.number s) (in_line nodes tree c.number s.parent) (sym (up_line nodes tree c.number m s is) ∙ t)) [
-          | inl own ↦
-              let same : s ≡ c = same_Some s c (sym is ∙ ap (λ (j : ℕ). at j nodes) (sym number ∙ eqb-true s.number c.number own) ∙ found) in
-              subst (λ (j : ℕ). in_line nodes tree n j ≡ true) (sym (ap (λ (x : ResourceData). x.parent) same ∙ under)) (own_line n there)
-          | inr up ↦ above s (omega (arith, less, lower)) up
-        ])
-
-    below_child : (k m : ℕ) → m < k → in_line nodes tree c.number m ≡ true → in_line nodes tree n m ≡ true
-    below_child zero m less t = absurd (omega (arith, less))
-    below_child (suc k) m less t = by_found k m less (λ s lower up. below_child k s.parent lower up) t (at m nodes) refl
-
-  module _ (n : ℕ) (there : has n nodes ≡ true) (old : List ℕ) where
-    -- no child yet
-    pub gathers_none : GathersUpTo nodes n 0 old (old ++ n ∷ [])
-    gathers_none = record {
-      own = last_in n old;
-      keeps = λ m t. front_in m n old t;
-      finds = λ k c less is m t. absurd (omega (arith, less));
-      only = λ m t. elim (one_of m n old t) [
-        | inl front ↦ inl front
-        | inr own ↦ inr (subst (λ (j : ℕ). in_line nodes tree n j ≡ true) (sym own) (own_line n there))
-      ];
-    }
-
-    -- a child stands there
-    pub child_there : (place c : ℕ) → Some c ≡ number_at place (children_of n nodes) → has c nodes ≡ true
-    child_there place c is =
-        let got = number_some (slice_get (children_of n nodes) place) c is in
-        at_has c nodes got.0 (ap (λ (j : ℕ). at j nodes) (sym got.2) ∙ placed_stands (is_under n) nodes place got.0 tree got.1)
-
-    -- one child more
-    pub gathers_one : (place c : ℕ) (so_far new : List ℕ) → Some c ≡ number_at place (children_of n nodes) → GathersUpTo nodes n place old so_far → Gathers c nodes so_far new → GathersUpTo nodes n (place + 1) old new
-    gathers_one place c so_far new is before more =
-        let got = number_some (slice_get (children_of n nodes) place) c is in
-        let child : ResourceData = got.0 in
-        let under : child.parent ≡ n = child_under n nodes place child got.1 in
-        let found : at child.number nodes ≡ Some child = placed_stands (is_under n) nodes place child tree got.1 in
-        record {
-          own = more.keeps n before.own;
-          keeps = λ m t. more.keeps m (before.keeps m t);
-          finds = λ k d less at_k m t. elim (cases_lt k place) [
-            | inl lower ↦ more.keeps m (before.finds k d lower at_k m t)
-            | inr past ↦
-                let same : k ≡ place = omega (arith, less, past) in
-                let child_is : d ≡ c = same_Some d c (at_k ∙ ap (λ (j : ℕ). number_at j (children_of n nodes)) same ∙ sym is) in
-                more.finds m (subst (λ (j : ℕ). in_line nodes tree j m ≡ true) child_is t)
-          ];
-          only = λ m t. elim (more.only m t) [
-            | inl front ↦ before.only m front
-            | inr line ↦ inr (below_child n there child found under (suc m) m (omega arith) (subst (λ (j : ℕ). in_line nodes tree j m ≡ true) (sym got.2) line))
-          ];
-        }
-
-    -- no child is left
-    pub gathers_all : (place : ℕ) (new : List ℕ) → length (children_of n nodes) ≤ place → GathersUpTo nodes n place old new → Gathers n nodes old new
-    gathers_all place new all before = record {
-      keeps = before.keeps;
-      only = before.only;
-      finds = λ m t. elim (child_in_line nodes tree (suc m) n m (omega arith) t) [
-        | inl own ↦ subst (λ (j : ℕ). list_any (nat_eq j) new ≡ true) (sym own) before.own
-        | inr below ↦
-            let got = found_place (is_under n) nodes below.child.number below.child below.found (eq-eqb below.child.parent n below.under) in
-            let is : Some below.child.number ≡ number_at got.0 (children_of n nodes) = sym (ap resource_number got.1) in
-            elim (cases_lt got.0 place) [
-              | inl lower ↦ before.finds got.0 below.child.number lower is m below.line
-              | inr past ↦ absurd (none_past got.0 (children_of n nodes) below.child.number (omega (arith, all, past)) is)
-            ]
-      ];
-    }
-
--- ---- numbers that ascend
-
-both_hold : (a b : Bool) → (a ≡ true → b ≡ true) → (b ≡ true → a ≡ true) → a ≡ b
-both_hold true b into from = sym (into refl)
-both_hold false b into from = elim (cases_Bool b) [ inl t ↦ from t ∙ sym t | inr f ↦ sym f ]
-
-above_each : (x : ℕ) (ns : List ℕ) → AllByRecursion (λ y. nat_cmp x y ≡ Less) ns → (m : ℕ) → list_any (nat_eq m) ns ≡ true → x < m
-above_each x [] all m t = absurd (both_ways false refl t)
-above_each x (n ∷ ns) all m t = elim (or_cases (nat_eq m n) (list_any (nat_eq m) ns) t) [
-  | inl own ↦ subst (λ (j : ℕ). x < j) (sym (eqb-true m n own)) (less_is x n all.0)
-  | inr rest ↦ above_each x ns all.1 m rest
-]
-
-first_in : (n : ℕ) (ns : List ℕ) → list_any (nat_eq n) (n ∷ ns) ≡ true
-first_in n ns = or_left _ _ (eq-eqb n n refl)
-
--- with the same numbers they are the same
-same_numbers : (xs ys : List ℕ) → DoAscend xs → DoAscend ys → ((m : ℕ) → list_any (nat_eq m) xs ≡ list_any (nat_eq m) ys) → xs ≡ ys
-unfolding IsStrictlySortedBy
-same_numbers [] [] order other same = refl
-same_numbers [] (y ∷ ys) order other same = absurd (both_ways _ (sym (same y)) (first_in y ys))
-same_numbers (x ∷ xs) [] order other same = absurd (both_ways _ (same x) (first_in x xs))
-same_numbers (x ∷ xs) (y ∷ ys) order other same =
-    ap (λ (n : ℕ). n ∷ xs) heads ∙ ap (λ (ns : List ℕ). y ∷ ns) (same_numbers xs ys order.1 other.1 tails)
-  where
-    behind : (a b : ℕ) (bs : List ℕ) → AllByRecursion (λ z. nat_cmp b z ≡ Less) bs → list_any (nat_eq a) (b ∷ bs) ≡ true → b ≤ a
-    behind a b bs all t = elim (or_cases (nat_eq a b) (list_any (nat_eq a) bs) t) [
-      | inl own ↦ (let is : a ≡ b = eqb-true a b own in omega (arith, is))
-      | inr rest ↦ (let less : b < a = above_each b bs all a rest in omega (arith, less))
-    ]
-
-    heads : x ≡ y
-    heads =
-        let one : y ≤ x = behind x y ys other.0 (sym (same x) ∙ first_in x xs) in
-        let two : x ≤ y = behind y x xs order.0 (same y ∙ first_in y ys) in
-        omega (arith, one, two)
-
-    tails : (m : ℕ) → list_any (nat_eq m) xs ≡ list_any (nat_eq m) ys
-    tails m = elim (cases_Bool (nat_eq m x)) [
-      | inl own ↦
-          let is : m ≡ x = eqb-true m x own in
-          none_of m x xs order.0 is ∙ sym (none_of m y ys other.0 (is ∙ heads))
-      | inr apart ↦
-          let apart_too : nat_eq m y ≡ false = ap (nat_eq m) (sym heads) ∙ apart in
-          let both : (nat_eq m x || list_any (nat_eq m) xs) ≡ (nat_eq m y || list_any (nat_eq m) ys) = same m in
-          rw (apart, apart_too) at both
-    ]
-      where
-        none_of : (m b : ℕ) (bs : List ℕ) → AllByRecursion (λ z. nat_cmp b z ≡ Less) bs → m ≡ b → list_any (nat_eq m) bs ≡ false
-        none_of m b bs all is = elim (cases_Bool (list_any (nat_eq m) bs)) [
-          | inl t ↦ (let less : b < m = above_each b bs all m t in absurd (omega (arith, less, is)))
-          | inr f ↦ f
-        ]
-
--- ---- those that were gathered, in order
-
-equality : IsEquivalence nat_eq
-equality = record {
-  refl = λ x. eq-eqb x x refl;
-  symm = λ x y. eqb_sym x y;
-  congr = λ x y z t. ap (λ (n : ℕ). nat_eq n z) (eqb-true x y t);
-}
+use Rattle.tree_model.proofs.TreeLemmas.{at_none}
+use Rattle.create_delete.specs.Telling.{numbers_below}
 
 module _ (n : ℕ) (nodes : List ResourceData) (tree : is_tree nodes ≡ true) (found sorted left : List ℕ) (gathers : Gathers n nodes [] found) (perm : IsPermutation found sorted) (order : IsSorted nat_cmp sorted) (filtered : IsFiltered (DiffersFromLast nat_eq) [] sorted left) where
-  left_is : left ≡ dedup nat_eq sorted
-  left_is = dedup_is nat_eq sorted left filtered
+  listed : (m : ℕ) → list_any (nat_eq m) (numbers_below n nodes) ≡ (has m nodes && in_line nodes n m)
+  listed m = among_numbers m (filter (is_at_or_below n nodes) nodes) ∙ has-filter (in_line nodes n) m nodes
 
-  into : (m : ℕ) → list_any (nat_eq m) found ≡ true → list_any (nat_eq m) left ≡ true
-  into m t =
-      list_any-from_Contains equality m left
-      (subst (λ (ns : List ℕ). Contains ns m) (sym left_is)
-      (Contains-dedup_nat sorted m (Contains-permutation found sorted m perm (Contains-from_any (λ x y s. eqb-true x y s) m found t))))
-
-  from : (m : ℕ) → list_any (nat_eq m) left ≡ true → list_any (nat_eq m) found ≡ true
-  from m t =
-      list_any-from_Contains equality m found
-      (Contains-permutation sorted found m (IsPermutation-sym found sorted perm)
-      (Contains-from_dedup nat_eq sorted m (subst (λ (ns : List ℕ). Contains ns m) left_is (Contains-from_any (λ x y s. eqb-true x y s) m left t))))
-
-  listed : (m : ℕ) → list_any (nat_eq m) (numbers_below n nodes) ≡ (has m nodes && in_line nodes tree n m)
-  listed m = among_numbers m (filter (is_at_or_below n nodes) nodes) ∙ has-filter (in_line nodes tree n) m nodes
-
-  in_both : (m : ℕ) → in_line nodes tree n m ≡ true → (has m nodes && in_line nodes tree n m) ≡ true
+  in_both : (m : ℕ) → in_line nodes n m ≡ true → (has m nodes && in_line nodes n m) ≡ true
   in_both m t = elim (cases_Bool (has m nodes)) [
     | inl there ↦ rw (there, t) refl
     | inr none ↦ absurd (both_ways _ (no_line nodes tree n m (at_none m nodes none)) t)
@@ -229,11 +28,11 @@ module _ (n : ℕ) (nodes : List ResourceData) (tree : is_tree nodes ≡ true) (
   pub gathered_are : left ≡ numbers_below n nodes
   gathered_are =
       same_numbers left (numbers_below n nodes)
-      (subst DoAscend (sym left_is) (sorted_from_strictly_increasing _ (IsStrictlyIncreasing-dedup sorted order)))
+      (left_ascends found sorted left perm filtered order)
       (ascending_filter (is_at_or_below n nodes) nodes (ascending_from_tree nodes tree))
       (λ m. both_hold _ _
-      (λ t. elim (gathers.only m (from m t)) [
+      (λ t. elim (gathers.only m (left_found found sorted left perm filtered m t)) [
         | inl none ↦ absurd (both_ways false refl none)
         | inr line ↦ listed m ∙ in_both m line
       ])
-      (λ t. into m (gathers.finds m (and_parts (has m nodes) (in_line nodes tree n m) (sym (listed m) ∙ t)).1)))
+      (λ t. found_left found sorted left perm filtered m (gathers.finds m (and_parts (has m nodes) (in_line nodes n m) (sym (listed m) ∙ t)).1)))

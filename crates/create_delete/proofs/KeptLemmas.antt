@@ -1,12 +1,12 @@
 -- What is left of a list where what isn't kept of it is removed.
-use Rattle.std.specs.Prelude.{◌==◌, nat_eq, nat_lt, sum_by}
+use Rattle.std.specs.Prelude.{nat_eq, nat_lt, sum_by}
 use Rattle.std.proofs.Common.{◌≡◌, ℕ, ◌+◌, ◌<◌, ◌≤◌, List, [], ◌∷◌, ◌++◌, length, Bool, true, not, ◌&&◌, ◌||◌, inl, inr, refl, sym, ap, ◌∙◌, subst, arith, false}
-use Rattle.std.proofs.lemmas.Bool.{cases_Bool, cases_eq, and_parts, and_from, or_right, ltb-true, eq-eqb, ne_eqb, not_from_false, not-true}
+use Rattle.std.proofs.lemmas.Bool.{cases_Bool, and_parts, and_from, or_right, ltb-true, eq-eqb, ne_eqb, not_from_false, not-true}
 use Rattle.std.proofs.lemmas.List.Sums.{sum_by-cons}
 use Rattle.std.specs.List.{filter, list_any, list_all}
 use Rattle.resource_model.specs.Resource.{ResourceData}
 use Rattle.tree_model.specs.Tree.{has, stays, staying}
-use Rattle.tree_model.proofs.GrowthLemmas.{has-filter}
+use Rattle.tree_model.proofs.AmongLemmas.{is_not_kept}
 use Rattle.container_limits.specs.Limits.{numbers_of}
 use Rattle.tree_model.proofs.StepLemmas.{not_not}
 use Rattle.tree_model.proofs.OrderLemmas.{are_above, ascend, above_lacks, ascend_parts}
@@ -77,23 +77,9 @@ in_kept p (r ∷ rs) order front kept is =
 
 -- ---- numbers
 
-pub eqb_sym : (a b : ℕ) → (a == b) ≡ (b == a)
-eqb_sym a b = elim (cases_eq a b) [
-  | inl e ↦ eq-eqb a b e ∙ sym (eq-eqb b a (sym e))
-  | inr ne ↦ ne_eqb a b ne ∙ sym (ne_eqb b a (λ e. ne (sym e)))
-]
-
--- a number among those of some resources
-pub among_numbers : (n : ℕ) (rs : List ResourceData) → list_any (nat_eq n) (numbers_of rs) ≡ has n rs
-among_numbers n [] = refl
-among_numbers n (r ∷ rs) = ap (λ b. b || list_any (nat_eq n) (numbers_of rs)) (eqb_sym n r.number) ∙ ap (λ b. (r.number == n) || b) (among_numbers n rs)
-
 -- the numbers of those that aren't kept
 abbrev pub not_kept : List ResourceData → List ResourceData → List ℕ
 not_kept kept rs = numbers_of (filter (λ s. not (has s.number kept)) rs)
-
-pub is_not_kept : (kept rs : List ResourceData) (n : ℕ) → list_any (nat_eq n) (not_kept kept rs) ≡ (has n rs && not (has n kept))
-is_not_kept kept rs n = among_numbers n (filter (λ s. not (has s.number kept)) rs) ∙ has-filter (λ m. not (has m kept)) n rs
 
 -- a number of what isn't kept
 pub record IsNotKept (kept rs : List ResourceData) (n : ℕ) : Type 0 where

@@ -42,7 +42,7 @@ use Rattle.create_delete.proofs.CreatedLemmas.{may_join}
 use Rattle.create_delete.proofs.GrownLemmas.{grown_by, sound_grown}
 use Rattle.create_delete.proofs.InstanceLemmas.{grown_tree, instance_type, is_container, limits_restamped, pruning, there}
 use Rattle.create_delete.proofs.JoiningLemmas.{filled_is, filling_sound}
-use Rattle.create_delete.proofs.KeptLemmas.{is_not_kept}
+use Rattle.tree_model.proofs.AmongLemmas.{is_not_kept}
 use Rattle.create_delete.proofs.LeftLemmas.{instances_left, is_left, left_at, IsLeft}
 use Rattle.create_delete.proofs.EffectLemmas.{done_at}
 use Rattle.create_delete.proofs.ReplacedLemmas.{replaced_by}

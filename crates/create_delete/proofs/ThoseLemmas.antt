@@ -4,6 +4,7 @@ use Rattle.std.proofs.lemmas.Bool.{cases_Bool}
 use Rattle.std.specs.List.{filter}
 use Rattle.resource_model.specs.Resource.{ResourceData}
 use Rattle.tree_model.specs.Tree.{has, instances_of, is_instance, is_tree}
+use Rattle.tree_model.proofs.AmongLemmas.{among_numbers}
 use Rattle.tree_model.proofs.OrderLemmas.{placed_stands, tree_ascends}
 use Rattle.container_limits.specs.Limits.{evicted, kept, limits_of, numbers_of}
 use Rattle.container_limits.specs.declared.limits.Limits.{Limits}
@@ -12,7 +13,7 @@ use Rattle.entity_model.proofs.ExpiryLemmas.{those_all}
 use Rattle.create_delete.specs.Changes.{those_of}
 use Rattle.create_delete.specs.Changing.{is_numbered_in, pushed_by}
 use Rattle.create_delete.proofs.GrownLemmas.{picked_never}
-use Rattle.create_delete.proofs.KeptLemmas.{among_numbers, in_kept}
+use Rattle.create_delete.proofs.KeptLemmas.{in_kept}
 use Rattle.create_delete.proofs.PushingLemmas.{by_pushing}
 use Rattle.tree_model.proofs.TreeLemmas.{filter_among}
 

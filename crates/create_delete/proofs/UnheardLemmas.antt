@@ -1,6 +1,6 @@
 -- Of which creations and Updates nobody is told: no subscription stands under the parent, or under what is updated. What an instance or a container pushes out stands there too, and nothing stands under that.
 use Rattle.std.specs.Prelude.{◌==◌}
-use Rattle.std.proofs.Common.{◌≡◌, ℕ, List, [], ◌∷◌, ◌++◌, map, Bool, false, true, not, ◌&&◌, Option, None, Some, inl, inr, refl, sym, ap, ◌∙◌, subst}
+use Rattle.std.proofs.Common.{◌≡◌, ℕ, List, [], ◌++◌, map, Bool, false, true, not, ◌&&◌, Option, None, Some, inl, inr, refl, sym, ap, ◌∙◌, subst}
 use Rattle.std.proofs.lemmas.Bool.{and_parts, cases_Bool, eq-eqb, eqb-true, false_from_ne_true, or_left}
 use Rattle.std.specs.List.{filter}
 use Rattle.m2m_names.specs.declared.attributes.Attr.{Attr}
@@ -12,6 +12,8 @@ use Rattle.subscription_match.specs.Notices.{notes_of, notes_of_all}
 use Rattle.subscription_match.specs.declared.drafts.DraftParts.{DraftParts}
 use Rattle.tree_model.specs.Changes.{created, creation_changes, deleted, those_of, update_changes, updated}
 use Rattle.tree_model.specs.Tree.{at, has, instance_size, instances_of, is_instance, is_tree, is_well_formed, numbers_of, subs_of}
+use Rattle.tree_model.proofs.BelowLemmas.{up_line}
+use Rattle.tree_model.proofs.ChildLemmas.{sub_listed}
 use Rattle.tree_model.proofs.GrowthLemmas.{tree_from_well_formed}
 use Rattle.tree_model.proofs.OrderLemmas.{placed_stands, tree_ascends}
 use Rattle.tree_model.proofs.TreeLemmas.{at_number, kin_parts}
@@ -25,7 +27,7 @@ use Rattle.create_delete.specs.Changing.{pushed_by}
 use Rattle.create_delete.specs.Joining.{MayJoin, gone_by}
 use Rattle.create_delete.specs.declared.joining.ContainerUpdate.{ContainerUpdate}
 use Rattle.create_delete.proofs.KeptToldLemmas.{other_untold}
-use Rattle.create_delete.proofs.SilentLemmas.{all_none, each_picked, instance_silent, no_note, none_told, sub_listed, up_line}
+use Rattle.create_delete.proofs.SilentLemmas.{all_none, each_picked, instance_silent, no_note, none_told}
 use Rattle.create_delete.proofs.UnsentLemmas.{filter_both}
 
 module _ (home : HomeData) (nodes : List ResourceData) (formed : is_well_formed nodes ≡ true) (going : List ℕ) where
@@ -39,7 +41,7 @@ module _ (home : HomeData) (nodes : List ResourceData) (formed : is_well_formed 
 
   no_event : (r : ResourceData) → subs_of r.parent nodes ≡ [] → (t : ResourceData) → at t.number nodes ≡ Some t → event_for going (created r) t ≡ None
   no_event r beside t found = elim (cases_Bool (is_ty t.ty Subscription)) [
-    | inl sub ↦ elsewhere r t (false_from_ne_true _ (λ same. sub_listed nodes formed r.parent t found sub (eqb-true t.parent r.parent same) beside))
+    | inl sub ↦ elsewhere r t (false_from_ne_true _ (λ same. sub_listed nodes r.parent t found sub (eqb-true t.parent r.parent same) beside))
     | inr other ↦ other_untold going (created r) t other
   ]
 
@@ -55,7 +57,7 @@ module _ (home : HomeData) (nodes : List ResourceData) (formed : is_well_formed 
 
   no_update : (r s : ResourceData) (named : List Attr) → subs_of s.number nodes ≡ [] → (t : ResourceData) → at t.number nodes ≡ Some t → event_for going (updated r s named) t ≡ None
   no_update r s named beside t found = elim (cases_Bool (is_ty t.ty Subscription)) [
-    | inl sub ↦ updated_elsewhere r s t named (false_from_ne_true _ (λ same. sub_listed nodes formed s.number t found sub (eqb-true t.parent s.number same) beside))
+    | inl sub ↦ updated_elsewhere r s t named (false_from_ne_true _ (λ same. sub_listed nodes s.number t found sub (eqb-true t.parent s.number same) beside))
     | inr other ↦ other_untold going (updated r s named) t other
   ]
 

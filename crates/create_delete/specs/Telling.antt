@@ -1,5 +1,5 @@
 -- What comes of an operation, its changes told (TS-0001, 9.6.8 and 10.2.10).
-use Rattle.std.specs.Prelude.{◌≡◌, ◌⊎◌, ℕ, Bool, false, List, [], filter, nat_eq, Option, Some, IsTrue}
+use Rattle.std.specs.Prelude.{◌≡◌, ℕ, Bool, false, List, [], filter, Option, Some, IsTrue}
 use Rattle.std.specs.Prelude.{if◌then◌else◌}
 use Rattle.std.specs.List.{list_any}
 use Rattle.m2m_names.specs.declared.attributes.Attr.{Attr}
@@ -54,19 +54,6 @@ updated_told e r s named gone =
 -- the numbers of a resource and of all that stands below it, in order of creation
 abbrev pub numbers_below : ℕ → List ResourceData → List ℕ
 numbers_below n nodes = numbers_of (filter (is_at_or_below n nodes) nodes)
-
--- The second list has the numbers of the first, and those of the resource of the number and of all
--- that stands below it, and no others.
-pub record Gathers (n : ℕ) (nodes : List ResourceData) (old new : List ℕ) : Type 0 where
-  pub keeps : (m : ℕ) → IsTrue (list_any (nat_eq m) old) → IsTrue (list_any (nat_eq m) new)
-  pub finds :
-      (m : ℕ)
-      → IsTrue (list_any (has_number n) (line_of m nodes))
-      → IsTrue (list_any (nat_eq m) new)
-  pub only :
-      (m : ℕ)
-      → IsTrue (list_any (nat_eq m) new)
-      → IsTrue (list_any (nat_eq m) old) ⊎ IsTrue (list_any (has_number n) (line_of m nodes))
 
 -- the entity without the resource of a number and all that stands below it, told of each
 abbrev pub removed_told : EntityData → ℕ → EntityData

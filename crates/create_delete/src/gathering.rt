@@ -1,6 +1,6 @@
 //! The numbers of a resource and of all that stands below it.
 ghost use Rattle.std.specs.Prelude.{◌≡◌, IfOk, IsTrue, OnOk};
-ghost use Rattle.tree_model.specs.Tree.{has, is_tree};
+ghost use Rattle.tree_model.specs.Tree.{has, is_tree, Gathers};
 ghost use Rattle.create_delete.specs.Telling as spec;
 
 use m2m_value::Numbers;
@@ -30,7 +30,7 @@ fn gather<T: Tree>(tree: &T, number: u64, numbers: &mut Vec<u64>) -> Result<(), 
     requires tree { IsTrue (is_tree (T.nodes tree.now)) }
     requires there { IsTrue (has number (T.nodes tree.now)) }
     ensures { OnOk result
-        (spec.Gathers number (T.nodes tree.now) numbers.old.items numbers.new.items) }
+        (Gathers number (T.nodes tree.now) numbers.old.items numbers.new.items) }
 {
     numbers.push(number)?;
     for place in 0..tree.len() {

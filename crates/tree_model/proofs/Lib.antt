@@ -20,3 +20,7 @@ pub mod ManyLemmas
 pub mod StepLemmas
 pub mod OverdueLemmas
 pub mod NumberLemmas
+pub mod AmongLemmas
+pub mod BelowLemmas
+pub mod ChildLemmas
+pub mod GatheringLemmas

@@ -1,7 +1,7 @@
 -- A tree of resources: the list of them in order of creation (TS-0001, 9.6).
 use Rattle.std.specs.Prelude.{◌≡◌, ◌<◌, map, pos, is_some, slice_index_or, slice_get, slice_set, ℕ}
 use Rattle.std.specs.Prelude.{◌+◌, ◌-◌, ◌==◌, nat_eq, nat_le, nat_lt, min, List, [], ◌∷◌, ◌++◌}
-use Rattle.std.specs.Prelude.{length}
+use Rattle.std.specs.Prelude.{length, ◌⊎◌}
 use Rattle.std.specs.Prelude.{filter, find, reverse, sum_by, Bool, true, false, not, ◌&&◌, ◌||◌}
 use Rattle.std.specs.Prelude.{if◌then◌else◌, Option, Some, None, option_map, unwrap_or}
 use Rattle.std.specs.Prelude.{option_and_then}
@@ -184,6 +184,15 @@ level_of n nodes = length (line_of n nodes)
 -- The resource is that of the number, or stands below it.
 abbrev pub is_at_or_below : ℕ → List ResourceData → ResourceData → Bool
 is_at_or_below n nodes r = list_any (has_number n) (line_of r.number nodes)
+
+-- The second list has the numbers of the first, and those of the resource of the number and of all
+-- that stands below it, and no others.
+pub record Gathers (n : ℕ) (nodes : List ResourceData) (old new : List ℕ) : Type 0 where
+  pub keeps : (m : ℕ) → list_any (nat_eq m) old ≡ true → list_any (nat_eq m) new ≡ true
+  pub finds : (m : ℕ) → list_any (has_number n) (line_of m nodes) ≡ true
+      → list_any (nat_eq m) new ≡ true
+  pub only : (m : ℕ) → list_any (nat_eq m) new ≡ true
+      → (list_any (nat_eq m) old ≡ true) ⊎ (list_any (has_number n) (line_of m nodes) ≡ true)
 
 -- ---- changes
 

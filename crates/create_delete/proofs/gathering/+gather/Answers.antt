@@ -1,8 +1,7 @@
 use Rattle.std.proofs.Common.{◌≡◌, ◌<◌, ◌≤◌, length, true, sym, ◌∙◌, subst, arith, rules}
 use Rattle.tree_model.specs.Tree.{children_of, has}
-use Rattle.create_delete.specs.Telling.{Gathers}
-use Rattle.create_delete.proofs.GatheringLemmas.{child_there, gathers_all, gathers_none, gathers_one, GathersUpTo}
-use Rattle.create_delete.proofs.SilentLemmas.{child_above, children_few, no_place}
+use Rattle.tree_model.proofs.ChildLemmas.{child_above, child_there, children_few, no_place}
+use Rattle.tree_model.proofs.GatheringLemmas.{gathers_all, gathers_none, gathers_one, GathersUpTo}
 use Rattle.create_delete.proofs.gathering.+gather.Goals as goal
 
 pub loop-place-init : goal.loop-place-init
@@ -15,7 +14,7 @@ pub gather-requires : goal.gather-requires
 gather-requires g t c κs within =
     let nodes = g.T.Tree.nodes c.args.tree.now in
     let lower : c.args.number < c.in-Some.kid = child_above nodes c.requires.tree c.args.number c.loop-place.place c.in-Some.kid c.in-Some.ensures.value in
-    let there : has c.in-Some.kid nodes ≡ true = child_there nodes c.requires.tree c.args.number c.requires.there c.args.numbers.now.items c.loop-place.place c.in-Some.kid c.in-Some.ensures.value in
+    let there : has c.in-Some.kid nodes ≡ true = child_there nodes c.requires.tree c.args.number c.loop-place.place c.in-Some.kid c.in-Some.ensures.value in
     search rules
 
 pub loop-place-preserved : goal.loop-place-preserved

@@ -1,5 +1,5 @@
 use Rattle.std.proofs.Common.{◌-◌, ◌^◌}
-use Rattle.create_delete.proofs.GatheringLemmas.{GathersUpTo}
+use Rattle.tree_model.proofs.GatheringLemmas.{GathersUpTo}
 use Rattle.create_delete.proofs.gathering.+gather.Given as goal
 
 -- the children before the place were gathered, with all below them

@@ -1,5 +1,5 @@
 use Rattle.std.proofs.Common.{ℕ, List, ◌∙◌, subst}
-use Rattle.create_delete.specs.Telling.{Gathers}
+use Rattle.tree_model.specs.Tree.{Gathers}
 use Rattle.create_delete.proofs.GatheringLemmas.{gathered_are}
 use Rattle.create_delete.proofs.gathering.numbers_below.Goals as goal
 

@@ -1,7 +1,8 @@
 use Rattle.std.proofs.Common.{◌≡◌, ◌<◌, ◌≤◌, length, None, inl, inr, sym, ◌∙◌, arith, rules}
 use Rattle.std.proofs.lemmas.Bool.{cases_lt}
 use Rattle.tree_model.specs.Tree.{children_of, number_at, subs_of}
-use Rattle.create_delete.proofs.SilentLemmas.{child_above, children_few, children_silent, instances_silent, none_first, none_past}
+use Rattle.tree_model.proofs.ChildLemmas.{child_above, children_few, none_first, none_past}
+use Rattle.create_delete.proofs.SilentLemmas.{children_silent, instances_silent}
 use Rattle.create_delete.proofs.notifying.+silent.Goals as goal
 
 pub are_kids_silent-is_silent-requires : goal.are_kids_silent-is_silent-requires
@@ -26,7 +27,7 @@ pub is_silent-returns-in-Some-kid : goal.is_silent-returns-in-Some-kid
 is_silent-returns-in-Some-kid g t c held =
     let nodes = g.T.Tree.nodes c.args.tree.now in
     let none : None ≡ number_at 0 (subs_of c.args.number nodes) = sym c.in_default.is ∙ c.sub.ensures.value in
-    children_silent nodes c.requires c.args.number (none_first c.args.number nodes none) (c.are_kids_silent.ensures held)
+    children_silent nodes c.requires c.args.number (none_first (subs_of c.args.number nodes) none) (c.are_kids_silent.ensures held)
 
 -- all are instances
 pub is_silent-returns-in-None : goal.is_silent-returns-in-None
