@@ -19,7 +19,7 @@ use Rattle.resource_model.specs.contracts.resource.Resource as resource
 use Rattle.resource_model.specs.contracts.resource.Resource.TheInside as resource_inside
 use Rattle.resource_store.specs.contracts.seeded.Seeded as seeded
 use Rattle.resource_store.specs.contracts.seeded.SeededHasher as seeded_hasher
-use Rattle.resource_store.specs.contracts.slots.Slot as slot
+use Rattle.resource_store.specs.contracts.slot.Slot as slot
 use Rattle.resource_store.specs.contracts.slots.Slots as slots
 use Rattle.resource_store.specs.contracts.store.Store as store
 use Rattle.resource_store.specs.contracts.store.Store.TheInside as store_inside
@@ -67,7 +67,7 @@ first_part [] = u64-field
 first_part (F ∷ Fs) = F
 
 slot_send : IsSend slot.the_row
-slot_send = declared_send slot.the_type (resource_send, (search (sendable, crosses) depth 20, tt))
+slot_send = declared_send slot.the_type (resource_send, (search (sendable, crosses) depth 20, (search (sendable, crosses) depth 20, tt)))
 
 -- a table that a struct keeps is sent as its row
 table_send : IsSend (as_row (first_part slots.the_type.parts))

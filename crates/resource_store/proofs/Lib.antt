@@ -3,3 +3,4 @@ pub mod NextLemmas
 pub mod KnownLemmas
 pub mod LeafLemmas
 pub mod SeededLemmas
+pub mod SizeLemmas

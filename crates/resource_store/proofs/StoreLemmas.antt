@@ -19,6 +19,8 @@ use Rattle.tree_model.proofs.KeptLemmas.{is_tree-append, is_tree-without}
 use Rattle.tree_model.proofs.TreeLemmas.{at_none, replaced_missing}
 use Rattle.tree_model.proofs.NumberLemmas.{less_is}
 use Rattle.resource_store.proofs.LeafLemmas.{leaf_without}
+use Rattle.resource_store.specs.KinRows.{row_of}
+use Rattle.resource_store.specs.declared.kin_row.KinRow.{KinRow}
 use Rattle.resource_store.specs.Store.{resources_of, HoldsTree, IsStore, KeepsPresent}
 
 some_none : (r : ResourceData) → None ≡ Some r → ⊥
@@ -565,3 +567,22 @@ module _ (m left : ℕ → Option ResourceData) (order after : List ℕ) (count 
 -- so it is where nothing has the number
 pub none_removed : (m left : ℕ → Option ResourceData) (order : List ℕ) (count n : ℕ) → HoldsTree order m count → ((q : ℕ) → left q ≡ cond (nat_eq n q) None (m q)) → children_of n (resources_of order m) ≡ [] → resources_of order left ≡ without (has_number n) (resources_of order m)
 none_removed m left order count n holds updates alone = taken_out m left n holds.store.numbered updates order ∙ sym (leaf_without n (resources_of order m) holds.tree alone)
+
+-- it stays as it is then
+pub none_left : (m left : ℕ → Option ResourceData) (order : List ℕ) (count n : ℕ) → HoldsTree order m count → ((q : ℕ) → left q ≡ cond (nat_eq n q) None (m q)) → m n ≡ None → HoldsTree order left count
+none_left m left order count n holds updates none = unchanged_store m left order order count (λ q. updates q ∙ same q) refl holds
+  where
+    same : (q : ℕ) → cond (nat_eq n q) None (m q) ≡ m q
+    same q = elim (cases_Bool (nat_eq n q)) [
+      | inl t ↦ rw t (sym (ap m (sym (eqb-true n q t)) ∙ none))
+      | inr f ↦ rw f refl
+    ]
+
+-- a row tells that its resource was there
+pub row_there : (o : Option ResourceData) (row : KinRow) → Some row ≡ option_map row_of o → (r : ResourceData) × (o ≡ Some r)
+row_there None row told = cc
+row_there (Some r) row told = (r, refl)
+
+pub row_missing : (o : Option ResourceData) → None ≡ option_map row_of o → o ≡ None
+row_missing None told = refl
+row_missing (Some r) told = cc

@@ -1,3 +1,4 @@
+pub mod KinRows
 pub mod Overdue
 pub mod Seeded
 pub mod Slots

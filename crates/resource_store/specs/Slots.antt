@@ -2,7 +2,7 @@
 use Rattle.std.specs.Prelude.{ℕ, nat_eq, Option, None, Some, if◌then◌else◌, option_and_then}
 use Rattle.std.specs.HashMap.{HashMap, get}
 use Rattle.resource_model.specs.Resource.{ResourceData}
-use Rattle.resource_store.specs.declared.slots.Slot.{Slot}
+use Rattle.resource_store.specs.declared.slot.Slot.{Slot}
 
 -- the resource in a slot, unless it was taken out
 abbrev pub seen : Slot → Option ResourceData

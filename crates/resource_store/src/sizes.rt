@@ -1,24 +1,18 @@
 //! What instances add up to.
 ghost use Rattle.std.specs.Prelude.{◌≡◌, ◌<◌, ◌+◌, ◌^◌, [], ◌∷◌};
 ghost use Rattle.m2m_names.specs.Ids.{count_bound};
-ghost use Rattle.tree_model.specs.Tree.{instance_size, is_kin, sizes_of};
+ghost use Rattle.tree_model.specs.Tree.{is_kin, sizes_of};
 ghost use Rattle.m2m_names.specs.declared.types.Ty.TheVariants.{ContentInstance};
 
+use crate::kin_row::size_in_bytes;
 use crate::store::Store;
-use m2m_names::{Attr, Ty};
+use m2m_names::Ty;
 use resource_model::Resource;
 
 fn is_instance(resource: &Resource, container: u64) -> bool
     ensures { result ≡ is_kin ContentInstance container resource.now }
 {
     resource.parent() == container && resource.is(Ty::ContentInstance)
-}
-
-fn size_in_bytes(resource: &Resource) -> u64
-    ensures value { result ≡ instance_size resource.now }
-    ensures bound { result < count_bound }
-{
-    resource.attrs().count(Attr::Cs).unwrap_or(0)
 }
 
 // The size of an instance of a container; that of what is none is 0.

@@ -7,12 +7,13 @@ ghost use Rattle.m2m_names.specs.Stamps.{last_moment};
 ghost use Rattle.m2m_names.specs.declared.attributes.Attr.TheVariants.{Exc, St};
 ghost use Rattle.resource_model.specs.Attributes.{value_of};
 ghost use Rattle.resource_model.specs.Resource.{ResourceData};
-ghost use Rattle.resource_store.specs.Slots.{held, seen};
+ghost use Rattle.resource_store.specs.KinRows.{row_of};
+ghost use Rattle.resource_store.specs.Slots.{held};
 ghost use Rattle.tree_model.specs.Tree.{recounted, restamped};
 
+use crate::kin_row::KinRow;
 use crate::seeded::{NumberMap, Seeded};
-use m2m_names::Attr;
-use m2m_value::Val;
+use crate::slot::Slot;
 use resource_model::Resource;
 use std::alloc::{AllocError as OutOfMemory, Global};
 
@@ -28,48 +29,6 @@ pub(crate) struct Slots {
     // The numbers of those that were taken out. One may stand twice, or have another resource by
     // now.
     gone: Vec<u64>,
-}
-
-// A resource, and whether it was taken out.
-#[derive(Drop)]
-struct Slot {
-    resource: Resource,
-    is_gone: bool,
-}
-
-impl Slot {
-    // Its resource isn't seen from then on. Whether it was is told.
-    fn hide(&mut self) -> bool
-        ensures was { result ≡ is_some (seen self.old) }
-        ensures hidden { seen self.new ≡ None }
-    {
-        let was_seen = !self.is_gone;
-        self.is_gone = true;
-        was_seen
-    }
-
-    fn restamp(&mut self, lt: u64, st: u64)
-        requires there { (r : ResourceData) → seen self.old ≡ Some r
-            → IsSome (value_of St r.attrs) }
-        requires lt { lt ≤ last_moment }
-        requires st { st < count_bound }
-        ensures { seen self.new ≡ option_map (restamped lt st) (seen self.old) }
-    {
-        if !self.is_gone {
-            restamp(&mut self.resource, lt, st);
-        }
-    }
-
-    fn recount(&mut self, left: u64)
-        requires there { (r : ResourceData) → seen self.old ≡ Some r
-            → IsSome (value_of Exc r.attrs) }
-        requires left { left < count_bound }
-        ensures { seen self.new ≡ option_map (recounted left) (seen self.old) }
-    {
-        if !self.is_gone {
-            recount(&mut self.resource, left);
-        }
-    }
 }
 
 impl Slots {
@@ -109,30 +68,25 @@ impl Slots {
         ensures err { (n : ℕ) → OnErr result (held self.new.table n ≡ held self.old.table n) }
         ensures back { IfErr result (λ e. e.0 ≡ resource) }
     {
-        let slot = Slot {
-            resource,
-            is_gone: false,
-        };
+        let slot = Slot::of(resource);
         match self.table.insert(slot.resource.number(), slot) {
             Ok(_) => Ok(()),
             Err(refused) => Err((refused.value.1.resource, OutOfMemory)),
         }
     }
 
-    /// Takes out the resource of a number, and says whether there was one. Where there is no room
-    /// to note that, it is freed at once.
-    pub(crate) fn take_out(&mut self, number: u64) -> bool
-        ensures was { result ≡ is_some (held self.old.table number) }
+    /// Takes out the resource of a number, and tells its row. Where there is no room to note that,
+    /// it is freed at once.
+    pub(crate) fn take_out(&mut self, number: u64) -> Option<KinRow>
+        ensures row { result ≡ option_map row_of (held self.old.table number) }
         ensures left { (n : ℕ) → held self.new.table n
             ≡ if nat_eq number n then None else held self.old.table n }
     {
-        if !hide(&mut self.table, number) {
-            return false;
-        }
+        let row = hide(&mut self.table, number)?;
         if let Err(_) = self.gone.push(number) {
             let _freed = self.table.remove(&number);
         }
-        true
+        Some(row)
     }
 
     /// Frees some of those that were taken out, the last first, and behind the last one the room
@@ -158,7 +112,7 @@ impl Slots {
     {
         let number = resource.number();
         if let Some(slot) = self.table.get_mut(&number) {
-            slot.resource = resource;
+            slot.write_over(resource);
         }
     }
 
@@ -190,15 +144,15 @@ impl Slots {
     }
 }
 
-// The resource of a number isn't seen from then on. Whether there was one is told.
-fn hide(table: &mut NumberMap<Slot>, number: u64) -> bool
-    ensures was { result ≡ is_some (held table.old number) }
+// The resource of a number isn't seen from then on. Its row is told.
+fn hide(table: &mut NumberMap<Slot>, number: u64) -> Option<KinRow>
+    ensures row { result ≡ option_map row_of (held table.old number) }
     ensures left { (n : ℕ) → held table.new n
         ≡ if nat_eq number n then None else held table.old n }
 {
     match table.get_mut(&number) {
         Some(slot) => slot.hide(),
-        None => false,
+        None => None,
     }
 }
 
@@ -212,24 +166,4 @@ fn free(table: &mut NumberMap<Slot>, number: u64)
         }
         _ => {}
     }
-}
-
-fn restamp(resource: &mut Resource, lt: u64, st: u64)
-    requires there { IsSome (value_of St resource.old.attrs) }
-    requires lt { lt ≤ last_moment }
-    requires st { st < count_bound }
-    ensures { resource.new ≡ restamped lt st resource.old }
-{
-    resource.set_lt(lt);
-    // It has a value, so that this takes no memory.
-    let _set = resource.set(Attr::St, Val::of_num(st as i64));
-}
-
-fn recount(resource: &mut Resource, left: u64)
-    requires there { IsSome (value_of Exc resource.old.attrs) }
-    requires left { left < count_bound }
-    ensures { resource.new ≡ recounted left resource.old }
-{
-    // It has a value, so that this takes no memory.
-    let _set = resource.set(Attr::Exc, Val::of_num(left as i64));
 }

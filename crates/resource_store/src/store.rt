@@ -5,10 +5,12 @@ ghost use Rattle.std.specs.List.{filter_map};
 ghost use Rattle.m2m_names.specs.Ids.{count_bound};
 ghost use Rattle.m2m_names.specs.Stamps.{last_moment};
 ghost use Rattle.resource_model.specs.Resource.{has_number};
+ghost use Rattle.resource_store.specs.KinRows.{row_of};
 ghost use Rattle.tree_model.specs.Tree.{at, children_of, due, has, has_counter, has_state};
 ghost use Rattle.tree_model.specs.Tree.{is_tree, may_stand, next_after, recounted_at, replaced};
 ghost use Rattle.tree_model.specs.Tree.{restamped_at, standing, without};
 
+use crate::kin_row::KinRow;
 use crate::order::{let_gaps_go, nth_of, place_after, put_last};
 use crate::seeded::Seeded;
 use crate::slots::Slots;
@@ -94,7 +96,7 @@ impl Store {
     }
 
     /// The numbers of the resources in order of creation, among some whose resources have gone.
-    pub(crate) fn numbers(&self) -> &[u64]
+    pub fn numbers(&self) -> &[u64]
         ensures { filter_map (λ n. at n self.now) result.now ≡ self.now }
     {
         &self.order
@@ -169,16 +171,18 @@ impl Store {
         self.resources.recount(number, left)
     }
 
-    /// Takes out the resource of a number, below which none stands. Its memory is given back later
+    /// Takes out the resource of a number, below which none stands, and tells its row. It looks at
+    /// an attribute only for a size of 2^32 - 1 bytes or more. Its memory is given back later
     /// (`free_some`).
-    pub fn remove_leaf(&mut self, number: u64)
+    pub fn remove_leaf(&mut self, number: u64) -> Option<KinRow>
         requires { children_of number self.old ≡ [] }
-        ensures { self.new ≡ without (has_number number) self.old }
+        ensures value { self.new ≡ without (has_number number) self.old }
+        ensures row { result ≡ option_map row_of (at number self.old) }
     {
-        if self.resources.take_out(number) {
-            self.count -= 1;
-            let_gaps_go(&self.resources, &mut self.order, self.count, number);
-        }
+        let row = self.resources.take_out(number)?;
+        self.count -= 1;
+        let_gaps_go(&self.resources, &mut self.order, self.count, number);
+        Some(row)
     }
 
     /// Gives back the memory of some of the resources that were taken out, as `push` does.

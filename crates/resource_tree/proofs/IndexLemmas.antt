@@ -1,32 +1,33 @@
 -- The queues and sums of a list that grows at its end, and of what stays of a list.
 use Rattle.std.specs.Prelude.{nat_eq, nat_lt}
-use Rattle.std.proofs.Common.{◌≡◌, ◌==◌, ℕ, zero, suc, ◌+◌, ◌-◌, List, [], ◌∷◌, ◌++◌, map, length, take, find, set, Bool, true, false, cond, pos, ◌&&◌, Option, Some, None, option_map, unwrap_or, sum_by, inl, inr, refl, sym, ap, ◌∙◌, subst, arith, zero-add}
+use Rattle.std.proofs.Common.{◌≡◌, ◌==◌, ℕ, ◌+◌, ◌-◌, List, [], ◌∷◌, ◌++◌, length, find, Bool, true, false, cond, pos, ◌&&◌, Option, Some, None, option_map, sum_by, inl, inr, refl, sym, ap, ◌∙◌, subst, arith, zero-add}
 use Rattle.std.proofs.lemmas.Bool.{cases_Bool, and_parts, or_parts, eq-eqb, eqb-true}
 use Rattle.std.proofs.lemmas.List.{append-nil, map-append}
 use Rattle.std.proofs.lemmas.List.Elements.{filter-append}
 use Rattle.std.proofs.lemmas.List.Sums.{sum_by-cons}
 use Rattle.std.proofs.lemmas.Option.{same_Some}
 use Rattle.std.specs.HashMap.{HashMap, get}
-use Rattle.std.specs.List.{filter, list_all, remove, slice_get}
-use Rattle.std.specs.Option.{option_map_or, option_and_then}
+use Rattle.std.specs.List.{filter, list_all, slice_get}
+use Rattle.std.specs.Option.{option_map_or}
 use Rattle.m2m_names.specs.declared.attributes.Attr.{Attr}
-use Rattle.m2m_names.specs.declared.attributes.Attr.TheVariants.{Cs, Exc, St}
+use Rattle.m2m_names.specs.declared.attributes.Attr.TheVariants.{Exc, St}
 use Rattle.m2m_names.specs.declared.types.Ty.{Ty}
 use Rattle.m2m_names.specs.declared.types.Ty.TheVariants.{ContentInstance, PollingChannel, Subscription}
 use Rattle.m2m_value.specs.Data.{Data, number as whole_number}
-use Rattle.m2m_value.specs.Shapes.{as_count}
 use Rattle.resource_model.specs.Resource.{ResourceData, has_number, is_ty}
 use Rattle.tree_model.specs.Tree.{are_below, at, children_of, has, instance_size, is_kin, is_tree, is_under, may_stand, numbers_of, replaced, recounted, recounted_at, resource_number, restamped, restamped_at, sizes_of, standing, without, is_spared}
 use Rattle.tree_model.proofs.ChangeLemmas.{sum-replaced, unpicked-replaced}
 use Rattle.resource_store.proofs.LeafLemmas.{missing_others, others}
 use Rattle.tree_model.proofs.GrowthLemmas.{below_lacks, has-without, next_fits, without-spared}
 use Rattle.tree_model.proofs.OrderLemmas.{above_lacks, ascend, ascend_parts, tree_ascends}
-use Rattle.tree_model.proofs.MarkLemmas.{marked, IsAside, exc_aside, st_aside, other_kept, stood_marked}
+use Rattle.tree_model.proofs.MarkLemmas.{marked, IsAside, exc_aside, st_aside, stood_marked}
 use Rattle.tree_model.proofs.TreeLemmas.{at_none, at_number}
-use Rattle.resource_tree.specs.Index.{grown_sum, row_of, row_size, HasNumbers, HasSums, HasKin}
+use Rattle.resource_store.proofs.SizeLemmas.{size_kept}
+use Rattle.resource_store.specs.KinRows.{row_of, row_size}
+use Rattle.resource_store.specs.declared.kin_row.KinRow.{KinRow}
+use Rattle.resource_tree.specs.Index.{grown_sum, HasNumbers, HasSums, HasKin}
 use Rattle.resource_tree.specs.Queue.{queue_at, without_number}
 use Rattle.resource_tree.specs.declared.kin.Kin.{Kin}
-use Rattle.resource_tree.specs.declared.kin.KinRow.{KinRow}
 
 -- ---- one more
 
@@ -392,6 +393,27 @@ kin_removed nodes n r row before after tree found is has_it takes =
     subst (λ (rs : List ResourceData). HasKin rs after) (sym parts.5)
     (kin_taken parts.0 parts.1 r row before after parts.3 parts.4 is (subst (λ (rs : List ResourceData). HasKin rs before) parts.2 has_it) takes)
 
+-- so it is by the row that its list told
+pub kin_gone : (nodes : List ResourceData) (n : ℕ) (row : KinRow) (before after : Kin) → is_tree nodes ≡ true → Some row ≡ option_map row_of (at n nodes) → HasKin nodes before → TakesAll row before after → HasKin (others n nodes) after
+kin_gone nodes n row before after tree told has_it takes = by (at n nodes) refl told
+  where
+    by : (o : Option ResourceData) → at n nodes ≡ o → Some row ≡ option_map row_of o → HasKin (others n nodes) after
+    by None found wrong = cc
+    by (Some r) found is = kin_removed nodes n r row before after tree found (same_Some row (row_of r) is) has_it takes
+
+-- where there was no row, nothing goes
+pub kin_stays : (nodes : List ResourceData) (n : ℕ) (kin : Kin) → None ≡ option_map row_of (at n nodes) → HasKin nodes kin → HasKin (others n nodes) kin
+kin_stays nodes n kin told has_it = by (at n nodes) refl told
+  where
+    by : (o : Option ResourceData) → at n nodes ≡ o → None ≡ option_map row_of o → HasKin (others n nodes) kin
+    by None found is = subst (λ (ns : List ResourceData). HasKin ns kin) (missing_others n nodes found) has_it
+    by (Some r) found wrong = cc
+
+-- the parent in a row is that of its resource
+pub parent_told : (row : Option KinRow) (o : Option ResourceData) → row ≡ option_map row_of o → option_map_or (λ (k : KinRow). k.parent) row 0 ≡ option_map_or (λ (r : ResourceData). r.parent) o 0
+parent_told row None is = ap (λ (k : Option KinRow). option_map_or (λ (x : KinRow). x.parent) k 0) is
+parent_told row (Some r) is = ap (λ (k : Option KinRow). option_map_or (λ (x : KinRow). x.parent) k 0) is
+
 -- ---- one in the place of another
 
 module _ (r : ResourceData) (p : ResourceData → Bool) (same : (s : ResourceData) → standing s ≡ standing r → p s ≡ p r) where
@@ -457,9 +479,6 @@ module _ (nodes : List ResourceData) (r : ResourceData) (stood : option_map stan
 
   pub kin_still : (kin : Kin) → HasKin nodes kin → is_ty r.ty ContentInstance ≡ false → HasKin (replaced r nodes) kin
   kin_still kin is other = kin-replaced kin kin is refl refl refl refl (sums-replaced kin.sums kin.sums is.sums (λ p s e. (e, no_instance other p)))
-
-size_kept : (a : Attr) (aside : IsAside a) (d : Data) (lt : ℕ) (r : ResourceData) → instance_size (marked a d lt r) ≡ instance_size r
-size_kept a aside d lt r = ap (λ (o : Option Data). unwrap_or (option_and_then as_count o) 0) (other_kept Cs a d r aside.cs refl)
 
 -- a resource of which such an attribute is set
 kin-marked : (a : Attr) (aside : IsAside a) (d : Data) (lt : ℕ) (nodes : List ResourceData) (n : ℕ) (r : ResourceData) → at n nodes ≡ Some r → (kin : Kin) → HasKin nodes kin → HasKin (replaced (marked a d lt r) nodes) kin

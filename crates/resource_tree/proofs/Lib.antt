@@ -3,5 +3,4 @@ pub mod IndexLemmas
 pub mod KinLemmas
 pub mod Sent
 pub mod RemovalLemmas
-pub mod GatheringLemmas
 pub mod OverdueLemmas

@@ -1,6 +1,6 @@
 -- What is overdue, by the entries that tell when resources are due.
 use Rattle.std.specs.Prelude.{nat_eq, nat_le, ◌⊎◌}
-use Rattle.std.proofs.Common.{◌≡◌, ◌≢◌, ℕ, zero, suc, ◌<◌, ◌≤◌, List, [], ◌∷◌, true, false, ◌&&◌, not, Option, Some, None, inl, inr, refl, sym, ap, ◌∙◌, subst, arith}
+use Rattle.std.proofs.Common.{◌≡◌, ◌≢◌, ℕ, ◌<◌, ◌≤◌, List, [], ◌∷◌, true, false, ◌&&◌, not, Option, Some, None, inl, inr, refl, sym, ap, ◌∙◌, subst, arith}
 use Rattle.std.proofs.lemmas.Bool.{and_from, and_parts, both_ways, cases_Bool, eq-eqb, eqb-true, leb-true, or_cases, or_left, or_right}
 use Rattle.std.proofs.lemmas.Option.{same_Some}
 use Rattle.std.specs.List.{list_any}
@@ -10,16 +10,17 @@ use Rattle.std.specs.Option.{option_map_or}
 use Rattle.std.specs.Ordering.{nat_cmp}
 use Rattle.m2m_names.specs.Stamps.{last_moment}
 use Rattle.resource_model.specs.Resource.{ResourceData, has_number}
-use Rattle.tree_model.specs.Tree.{at, due, has, has_come, is_due, is_tree, line_of, live, overdue_numbers}
-use Rattle.tree_model.proofs.GrowthLemmas.{ascending_from_tree, stands}
+use Rattle.tree_model.specs.Tree.{at, due, has, has_come, is_due, is_tree, line_of, live, overdue_numbers, Gathers}
+use Rattle.tree_model.proofs.AmongLemmas.{both_hold, found_left, is_not_kept, left_ascends, left_found, same_numbers}
+use Rattle.tree_model.proofs.BelowLemmas.{by_line, in_line, no_line, up_line}
+use Rattle.tree_model.proofs.GrowthLemmas.{ascending_from_tree}
 use Rattle.tree_model.proofs.ManyLemmas.{ascending_filter}
 use Rattle.tree_model.proofs.OverdueLemmas.{gone_above, gone_here, gone_nowhere}
 use Rattle.tree_model.proofs.TreeLemmas.{at_has, at_number, has_from_at}
 use Rattle.resource_store.specs.Overdue.{is_first, is_first_at, is_overdue}
 use Rattle.resource_dues.specs.Dues.{is_listed, tells, AreTold}
 use Rattle.resource_dues.proofs.DuesLemmas.{entry_cmp, listed_before, none_by}
-use Rattle.resource_tree.specs.Gathering.{Gathers, GathersFirst, GathersTold}
-use Rattle.resource_tree.proofs.GatheringLemmas.{both_hold, from, in_line, into, is_not_kept, left_ascends, no_line, same_numbers, up_line}
+use Rattle.resource_tree.specs.Gathering.{GathersFirst, GathersTold}
 
 -- ---- in a tree
 
@@ -67,22 +68,19 @@ module _ (nodes : List ResourceData) (moment : ℕ) (tree : is_tree nodes ≡ tr
   -- ---- what stands below what is due
 
   module _ (n : ℕ) (r : ResourceData) (found : at n nodes ≡ Some r) (late : is_due nodes moment r ≡ true) where
-    below_by : (k m : ℕ) → m < suc k → ((s : ResourceData) → s.parent < k → in_line nodes tree n s.parent ≡ true → is_overdue moment nodes s.parent ≡ true) → in_line nodes tree n m ≡ true → (o : Option ResourceData) → at m nodes ≡ o → is_overdue moment nodes m ≡ true
-    below_by k m less above t None is = absurd (both_ways _ (no_line nodes tree n m is) t)
-    below_by k m less above t (Some s) is =
+    below_step : (m : ℕ) (s : ResourceData) → at m nodes ≡ Some s → (in_line nodes n s.parent ≡ true → is_overdue moment nodes s.parent ≡ true) → in_line nodes n m ≡ true → is_overdue moment nodes m ≡ true
+    below_step m s is above t =
         let number : s.number ≡ m = at_number m nodes s is in
         let own : at s.number nodes ≡ Some s = ap (λ (j : ℕ). at j nodes) number ∙ is in
-        let lower : s.parent < m = (stands nodes tree m s is).above in
-        subst (λ (j : ℕ). is_overdue moment nodes j ≡ true) number (elim (or_cases (has_number n s) (in_line nodes tree n s.parent) (sym (up_line nodes tree n m s is) ∙ t)) [
+        subst (λ (j : ℕ). is_overdue moment nodes j ≡ true) number (elim (or_cases (has_number n s) (in_line nodes n s.parent) (sym (up_line nodes tree n m s is) ∙ t)) [
           | inl here ↦
               let same : s ≡ r = same_Some s r (sym own ∙ ap (λ (j : ℕ). at j nodes) (eqb-true s.number n here) ∙ found) in
               over s own (gone_here nodes moment tree s own (ap (is_due nodes moment) same ∙ late))
-          | inr up ↦ over_under s own (above s (omega (arith, less, lower)) up)
+          | inr up ↦ over_under s own (above up)
         ])
 
-    below_due : (k m : ℕ) → m < k → in_line nodes tree n m ≡ true → is_overdue moment nodes m ≡ true
-    below_due zero m less t = absurd (omega (arith, less))
-    below_due (suc k) m less t = below_by k m less (λ s lower up. below_due k s.parent lower up) t (at m nodes) refl
+    below_due : (m : ℕ) → in_line nodes n m ≡ true → is_overdue moment nodes m ≡ true
+    below_due = by_line nodes tree (λ m. in_line nodes n m ≡ true → is_overdue moment nodes m ≡ true) (λ m none t. absurd (both_ways _ (no_line nodes tree n m none) t)) below_step
 
   pub record IsFirstHere (n : ℕ) : Type 0 where
     pub resource : ResourceData
@@ -98,10 +96,10 @@ module _ (nodes : List ResourceData) (moment : ℕ) (tree : is_tree nodes ≡ tr
           let both : is_first moment nodes r ≡ true = sym (ap (λ (o : Option ResourceData). option_map_or (is_first moment nodes) o false) is) ∙ first in
           record { resource = r; found = is; late = (and_parts (is_due nodes moment r) (not (is_overdue moment nodes r.parent)) both).0 }
 
-  pub below_first : (n m : ℕ) → is_first_at moment nodes n ≡ true → in_line nodes tree n m ≡ true → is_overdue moment nodes m ≡ true
+  pub below_first : (n m : ℕ) → is_first_at moment nodes n ≡ true → in_line nodes n m ≡ true → is_overdue moment nodes m ≡ true
   below_first n m first t =
       let here = first_here n first in
-      below_due n here.resource here.found here.late (suc m) m (omega arith) t
+      below_due n here.resource here.found here.late m t
 
   pub first_there : (n : ℕ) → is_first_at moment nodes n ≡ true → has n nodes ≡ true
   first_there n first = let here = first_here n first in at_has n nodes here.resource here.found
@@ -120,17 +118,15 @@ module _ (nodes : List ResourceData) (moment : ℕ) (tree : is_tree nodes ≡ tr
     pub found : at top.number nodes ≡ Some top
     pub late : is_due nodes moment top ≡ true
     pub first : is_first_at moment nodes top.number ≡ true
-    pub line : in_line nodes tree top.number m ≡ true
+    pub line : in_line nodes top.number m ≡ true
 
-  top_by : (k m : ℕ) → m < suc k → ((s : ResourceData) → s.parent < k → is_overdue moment nodes s.parent ≡ true → IsTop s.parent) → is_overdue moment nodes m ≡ true → (o : Option ResourceData) → at m nodes ≡ o → IsTop m
-  top_by k m less above t None is = absurd (both_ways _ (has_from_at m nodes is) (and_parts (has m nodes) (not (has m (live moment nodes))) t).0)
-  top_by k m less above t (Some s) is =
+  top_step : (m : ℕ) (s : ResourceData) → at m nodes ≡ Some s → (is_overdue moment nodes s.parent ≡ true → IsTop s.parent) → is_overdue moment nodes m ≡ true → IsTop m
+  top_step m s is above t =
       let number : s.number ≡ m = at_number m nodes s is in
       let own : at s.number nodes ≡ Some s = ap (λ (j : ℕ). at j nodes) number ∙ is in
-      let lower : s.parent < m = (stands nodes tree m s is).above in
       elim (cases_Bool (is_overdue moment nodes s.parent)) [
         | inl up ↦
-            let high = above s (omega (arith, less, lower)) up in
+            let high = above up in
             record { top = high.top; found = high.found; late = high.late; first = high.first; line = up_line nodes tree high.top.number m s is ∙ or_right _ _ high.line }
         | inr free ↦
             let late : is_due nodes moment s ≡ true = due_from s own (ap (is_overdue moment nodes) number ∙ t) free in
@@ -143,12 +139,8 @@ module _ (nodes : List ResourceData) (moment : ℕ) (tree : is_tree nodes ≡ tr
             }
       ]
 
-  top_within : (k m : ℕ) → m < k → is_overdue moment nodes m ≡ true → IsTop m
-  top_within zero m less t = absurd (omega (arith, less))
-  top_within (suc k) m less t = top_by k m less (λ s lower up. top_within k s.parent lower up) t (at m nodes) refl
-
   pub top_of : (m : ℕ) → is_overdue moment nodes m ≡ true → IsTop m
-  top_of m t = top_within (suc m) m (omega arith) t
+  top_of = by_line nodes tree (λ m. is_overdue moment nodes m ≡ true → IsTop m) (λ m none t. absurd (both_ways _ (has_from_at m nodes none) (and_parts (has m nodes) (not (has m (live moment nodes))) t).0)) top_step
 
   -- ---- of one entry
 
@@ -247,5 +239,5 @@ module _ (nodes : List ResourceData) (moment : ℕ) (tree : is_tree nodes ≡ tr
       (left_ascends found sorted left perm filtered order)
       (ascending_filter (λ r. not (has r.number (live moment nodes))) nodes (ascending_from_tree nodes tree))
       (λ m. both_hold _ _
-      (λ t. listed nodes moment tree m ∙ gathers.only m (from found sorted left perm filtered m t))
-      (λ t. into found sorted left perm filtered m (all_found m (sym (listed nodes moment tree m) ∙ t))))
+      (λ t. listed nodes moment tree m ∙ gathers.only m (left_found found sorted left perm filtered m t))
+      (λ t. found_left found sorted left perm filtered m (all_found m (sym (listed nodes moment tree m) ∙ t))))

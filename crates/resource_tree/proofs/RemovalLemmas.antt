@@ -1,6 +1,6 @@
 -- Removals that take one resource after another.
 use Rattle.std.specs.Prelude.{nat_eq, nat_le}
-use Rattle.std.proofs.Common.{◌≡◌, ◌==◌, ◌⊎◌, ℕ, zero, suc, ◌+◌, ◌-◌, ◌<◌, ◌≤◌, List, [], ◌∷◌, ◌++◌, length, drop, get_or, Bool, true, false, cond, not, ◌&&◌, ◌||◌, Option, Some, None, inl, inr, refl, sym, ap, ◌∙◌, subst, arith}
+use Rattle.std.proofs.Common.{◌≡◌, ◌==◌, ℕ, zero, suc, ◌-◌, ◌<◌, ◌≤◌, List, [], ◌∷◌, ◌++◌, length, Bool, true, false, cond, not, ◌&&◌, ◌||◌, Option, Some, None, inl, inr, refl, sym, ap, ◌∙◌, subst, arith}
 use Rattle.std.proofs.lemmas.Bool.{cases_Bool, and_parts, both_ways, eq-eqb, eqb-true, false_from_ne_true, le-leb, ne_eqb, or_parts}
 use Rattle.std.proofs.lemmas.Option.{same_Some}
 use Rattle.std.specs.List.{filter, list_all, list_any, slice_get}
@@ -8,14 +8,14 @@ use Rattle.std.specs.Option.{option_and_then, option_map_or}
 use Rattle.resource_model.specs.Resource.{ResourceData, has_number}
 use Rattle.tree_model.specs.Tree.{at, children_of, due, has, has_come, is_due, is_numbered_in, is_quiet, is_spared, is_tree, last_number, line_of, live, next_after, resource_number, staying, stays, without, without_all}
 use Rattle.tree_model.proofs.ChangeLemmas.{line_none}
-use Rattle.tree_model.proofs.GrowthLemmas.{at-without, has-filter, has-without, stands, without-spared, zero_lacks}
+use Rattle.tree_model.proofs.GrowthLemmas.{at-without, has-filter, has-without, stands, without-spared}
 use Rattle.tree_model.proofs.KeptLemmas.{is_tree-without}
 use Rattle.tree_model.proofs.LiveLemmas.{due-without, spared_parent, without_none}
 use Rattle.tree_model.proofs.OrderLemmas.{child_under, number_some, placed_stands}
 use Rattle.tree_model.proofs.QuietLemmas.{all_by_number}
-use Rattle.tree_model.proofs.TreeLemmas.{at_has, at_number, has_at, staying_wider}
+use Rattle.tree_model.proofs.TreeLemmas.{at_has, has_at, staying_wider}
 use Rattle.resource_dues.specs.Dues.{due_at}
-use Rattle.resource_dues.proofs.DuesLemmas.{due_goes, without_among}
+use Rattle.resource_dues.proofs.DuesLemmas.{without_among}
 use Rattle.resource_store.proofs.LeafLemmas.{leaf_without, others}
 use Rattle.resource_store.proofs.NextLemmas.{next_above, next_stands, until_end, until_next, until_zero}
 

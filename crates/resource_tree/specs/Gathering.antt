@@ -6,15 +6,6 @@ use Rattle.tree_model.specs.Tree.{line_of}
 use Rattle.resource_dues.specs.Dues.{is_listed}
 use Rattle.resource_store.specs.Overdue.{is_first_at, is_overdue}
 
--- The second list has the numbers of the first, and those of the resource of the number and of all
--- that stands below it, and no others.
-pub record Gathers (n : ℕ) (nodes : List ResourceData) (old new : List ℕ) : Type 0 where
-  pub keeps : (m : ℕ) → list_any (nat_eq m) old ≡ true → list_any (nat_eq m) new ≡ true
-  pub finds : (m : ℕ) → list_any (has_number n) (line_of m nodes) ≡ true
-      → list_any (nat_eq m) new ≡ true
-  pub only : (m : ℕ) → list_any (nat_eq m) new ≡ true
-      → (list_any (nat_eq m) old ≡ true) ⊎ (list_any (has_number n) (line_of m nodes) ≡ true)
-
 -- The second list has the numbers of the first, and others of what is overdue: that of the resource
 -- and of all that stands below it, where it is the first in its line that is.
 pub record GathersFirst (moment n : ℕ) (nodes : List ResourceData) (old new : List ℕ)

@@ -5,20 +5,11 @@ use Rattle.std.specs.HashMap.{HashMap, get}
 use Rattle.std.specs.Option.{option_map_or}
 use Rattle.m2m_names.specs.declared.types.Ty.TheVariants.{ContentInstance, PollingChannel}
 use Rattle.m2m_names.specs.declared.types.Ty.TheVariants.{Subscription}
-use Rattle.resource_model.specs.Resource.{ResourceData, is_ty}
-use Rattle.tree_model.specs.Tree.{instance_size, is_kin, is_under, numbers_of}
+use Rattle.resource_model.specs.Resource.{ResourceData}
+use Rattle.tree_model.specs.Tree.{is_kin, is_under, numbers_of}
 use Rattle.tree_model.specs.Tree.{sizes_of}
 use Rattle.resource_tree.specs.declared.kin.Kin.{Kin}
-use Rattle.resource_tree.specs.declared.kin.KinRow.{KinRow}
 use Rattle.resource_tree.specs.Queue.{queue_at}
-
--- the size of an instance in bytes; other resources have none
-abbrev pub row_size : ResourceData → ℕ
-row_size r = if is_ty r.ty ContentInstance then instance_size r else 0
-
--- its number, that of its parent, its type, and its size
-abbrev pub row_of : ResourceData → KinRow
-row_of r = record { number = r.number; parent = r.parent; ty = r.ty; size = row_size r }
 
 -- each parent has the numbers of those that a test picks for it, in order of creation
 abbrev pub HasNumbers : {S : Type 0} → (ℕ → ResourceData → Bool) → List ResourceData

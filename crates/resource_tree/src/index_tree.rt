@@ -148,8 +148,8 @@ impl IndexTree {
             ≡ option_map_or (λ (r : ResourceData). r.parent) (at number self.old) 0 }
         ensures tree { IsTrue (is_tree self.old) }
     {
-        let row = self.kin.remove(&self.list, number);
-        self.list.remove_leaf(number);
+        let gone = self.list.remove_leaf(number);
+        let row = self.kin.remove(number, gone);
         let is_instance = is_of(row, Ty::ContentInstance);
         self.named
             .note_gone(&self.list, number, row.parent, is_instance);
@@ -288,7 +288,7 @@ impl IndexTree {
 impl IndexTree {
     ghost use Rattle.std.specs.Prelude.{◌≡◌, ◌≢◌, ◌<◌, [], IsTrue, IfOk, IfSome, OnOk, OnErr};
     ghost use Rattle.m2m_names.specs.Stamps.{last_moment};
-    ghost use Rattle.tree_model.specs.Tree.{has, is_tree, overdue_numbers};
+    ghost use Rattle.tree_model.specs.Tree.{has, is_tree, overdue_numbers, Gathers};
     ghost use Rattle.resource_store.specs.Overdue.{is_overdue};
     ghost use Rattle.resource_tree.specs.Gathering as spec;
 
@@ -382,7 +382,7 @@ impl IndexTree {
     // Puts the numbers of a resource and of all that stands below it behind others.
     fn gather(&self, number: u64, numbers: &mut Vec<u64>) -> Result<(), OutOfMemory>
         requires { IsTrue (has number self.now) }
-        ensures { OnOk result (spec.Gathers number self.now numbers.old.items numbers.new.items) }
+        ensures { OnOk result (Gathers number self.now numbers.old.items numbers.new.items) }
     {
         numbers.push(number)?;
         for place in 0..self.len() {

@@ -1,7 +1,7 @@
 //! The children of each parent.
 ghost use Rattle.std.specs.Prelude.{◌≡◌, ℕ, ◌++◌, ◌-◌, [], ◌∷◌, OnOk, OnErr, length, nat_lt};
 ghost use Rattle.std.specs.Prelude.{IsTrue, nat_eq, slice_get, ◌&&◌, if◌then◌else◌, None, Some};
-ghost use Rattle.std.specs.Prelude.{filter, not, option_map};
+ghost use Rattle.std.specs.Prelude.{filter, not, option_map, List};
 ghost use Rattle.std.specs.HashMap.{get};
 ghost use Rattle.std.specs.List.{list_all};
 ghost use Rattle.std.specs.Option.{option_map_or};
@@ -9,59 +9,24 @@ ghost use Rattle.resource_model.specs.Resource.{ResourceData, has_number, is_ty}
 ghost use Rattle.m2m_names.specs.declared.types.Ty.TheVariants.{ContentInstance, PollingChannel};
 ghost use Rattle.m2m_names.specs.declared.types.Ty.TheVariants.{Subscription};
 ghost use Rattle.tree_model.specs.Tree.{at, instance_size, is_tree, may_stand, replaced, standing};
+ghost use Rattle.resource_store.specs.KinRows.{row_of};
+ghost use Rattle.resource_store.specs.declared.kin_row.KinRow.{KinRow};
 ghost use Rattle.resource_tree.specs.Index as spec;
 ghost use Rattle.resource_tree.specs.Index.{HasTypes, HasKin};
 ghost use Rattle.resource_tree.specs.Queue.{queue_at, without_number};
 
 use crate::queue::Queue;
 use crate::sums::{add_sum, forget_sum, take_sum};
-use m2m_names::{Attr, Ty};
+use m2m_names::Ty;
 use resource_model::Resource;
-use resource_store::{NumberMap, Seeded, Store};
+use resource_store::{KinRow, NumberMap, Seeded, Store, row_of, size_in_bytes};
 use std::alloc::{AllocError as OutOfMemory, Global};
-
-/// Of a resource its number, that of its parent, its type, and of an instance its size in bytes.
-#[derive(Clone, Copy)]
-pub(crate) struct KinRow {
-    pub(crate) number: u64,
-    pub(crate) parent: u64,
-    pub(crate) ty: Ty,
-    pub(crate) size: u64,
-}
-
-/// The row of a resource.
-pub(crate) fn row_of(resource: &Resource) -> KinRow
-    ensures { result ≡ spec.row_of resource.now }
-{
-    KinRow {
-        number: resource.number(),
-        parent: resource.parent(),
-        ty: resource.ty(),
-        size: row_size(resource),
-    }
-}
 
 /// Whether it is that of a resource of this type.
 pub(crate) fn is_of(row: KinRow, ty: Ty) -> bool
     ensures { result ≡ is_ty row.ty ty }
 {
     row.ty.number() == ty.number()
-}
-
-fn row_size(resource: &Resource) -> u64
-    ensures { result ≡ spec.row_size resource.now }
-{
-    if resource.is(Ty::ContentInstance) {
-        size_of(resource)
-    } else {
-        0
-    }
-}
-
-fn size_of(resource: &Resource) -> u64
-    ensures { result ≡ instance_size resource.now }
-{
-    resource.attrs().count(Attr::Cs).unwrap_or(0)
 }
 
 /// Of each parent the numbers of its children, and those of its instances, its subscriptions and
@@ -130,7 +95,7 @@ impl Kin {
                 &mut self.sums,
                 resource.parent(),
                 is_first,
-                size_of(resource),
+                size_in_bytes(resource),
             );
         }
     }
@@ -189,18 +154,16 @@ impl Kin {
         }
     }
 
-    /// Without the resource of a number, which goes alone. The list has it still. Its row is told;
-    /// that of none has no parent.
-    pub(crate) fn remove(&mut self, list: &Store, number: u64) -> KinRow
-        requires tree { IsTrue (is_tree list.now) }
-        requires kin { HasKin list.now self.old }
-        ensures kin { HasKin (filter (λ r. not (has_number number r)) list.now) self.new }
-        ensures parent { result.parent
-            ≡ option_map_or (λ (r : ResourceData). r.parent) (at number list.now) 0 }
+    /// Without the resource of a number, which goes alone. This is its row, where it was there. The
+    /// row is told; that of none has no parent.
+    pub(crate) fn remove(&mut self, number: u64, row: Option<KinRow>) -> KinRow
+        ensures kin { (nodes : List ResourceData) → IsTrue (is_tree nodes) → HasKin nodes self.old
+            → row ≡ option_map row_of (at number nodes)
+            → HasKin (filter (λ r. not (has_number number r)) nodes) self.new }
+        ensures parent { result.parent ≡ option_map_or (λ (r : KinRow). r.parent) row 0 }
     {
-        match list.get(number) {
-            Some(resource) => {
-                let row = row_of(resource);
+        match row {
+            Some(row) => {
                 self.take(row);
                 row
             }

@@ -1,6 +1,7 @@
 use Rattle.std.proofs.Common.{◌≡◌, ◌<◌, ◌≤◌, length, true, sym, ◌∙◌, subst, arith, rules}
 use Rattle.tree_model.specs.Tree.{children_of, has}
-use Rattle.resource_tree.proofs.GatheringLemmas.{child_above, child_there, children_few, gathers_all, gathers_none, gathers_one, no_place, GathersUpTo}
+use Rattle.tree_model.proofs.ChildLemmas.{child_above, child_there, children_few, no_place}
+use Rattle.tree_model.proofs.GatheringLemmas.{gathers_all, gathers_none, gathers_one, GathersUpTo}
 use Rattle.resource_tree.proofs.index_tree.IndexTree.+gather.Goals as goal
 
 pub loop-place-init : goal.loop-place-init
@@ -14,7 +15,7 @@ gather-requires t c =
     let nodes = c.args.self.now in
     let tree = c.in-Some.ensures.tree in
     let lower : c.args.number < c.in-Some.kid = child_above nodes tree c.args.number c.loop-place.place c.in-Some.kid c.in-Some.ensures.value in
-    let there : has c.in-Some.kid nodes ≡ true = child_there nodes tree c.args.number c.requires c.args.numbers.now.items c.loop-place.place c.in-Some.kid c.in-Some.ensures.value in
+    let there : has c.in-Some.kid nodes ≡ true = child_there nodes tree c.args.number c.loop-place.place c.in-Some.kid c.in-Some.ensures.value in
     search rules
 
 pub loop-place-preserved : goal.loop-place-preserved

@@ -1,5 +1,5 @@
 use Rattle.std.proofs.Common.{◌-◌, ◌^◌}
-use Rattle.resource_tree.proofs.GatheringLemmas.{GathersUpTo}
+use Rattle.tree_model.proofs.GatheringLemmas.{GathersUpTo}
 use Rattle.resource_tree.proofs.index_tree.IndexTree.+gather.Given as goal
 
 -- the children before the place were gathered, with all below them

@@ -1,4 +1,4 @@
-use Rattle.std.proofs.Common.{◌≡◌, ◌<◌, length, sym, ap, ◌∙◌, arith, refl, true, false}
+use Rattle.std.proofs.Common.{◌≡◌, ◌<◌, length, ap, ◌∙◌, arith, true, false}
 use Rattle.resource_model.specs.Resource.{has_number}
 use Rattle.std.specs.Option.{option_map_or}
 use Rattle.tree_model.specs.Tree.{has_come, live, without}

@@ -1,4 +1,4 @@
-use Rattle.std.proofs.Common.{List, true, sym, ap, ◌∙◌}
+use Rattle.std.proofs.Common.{List, sym, ap, ◌∙◌}
 use Rattle.m2m_value.proofs.Begins.{on_err}
 use Rattle.resource_model.specs.Resource.{ResourceData}
 use Rattle.tree_model.specs.Tree.{is_tree}

@@ -1,9 +1,9 @@
-use Rattle.std.proofs.Common.{◌≡◌, List, false, sym, ap, ◌∙◌, subst, length, ◌<◌}
+use Rattle.std.proofs.Common.{◌≡◌, List, false, sym, subst, length, ◌<◌}
 use Rattle.std.proofs.lemmas.Bool.{ne_eqb}
 use Rattle.resource_model.specs.Resource.{ResourceData, has_number}
 use Rattle.tree_model.specs.Tree.{has, without}
 use Rattle.tree_model.proofs.LiveLemmas.{without_none}
-use Rattle.resource_tree.proofs.RemovalLemmas.{IsGoing, fewer, going_up, number_goes}
+use Rattle.resource_tree.proofs.RemovalLemmas.{fewer, going_up, number_goes}
 use Rattle.std.proofs.Common.{refl}
 use Rattle.resource_tree.proofs.index_tree.IndexTree.remove_branch.Goals as goal
 
