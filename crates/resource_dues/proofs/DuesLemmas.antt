@@ -1,37 +1,37 @@
 -- When resources are due, by the entries of a table.
 use Rattle.std.specs.Prelude.{◌==◌, nat_eq, nat_le, slice_index_or}
-use Rattle.std.proofs.Common.{◌≡◌, ◌⊎◌, ℕ, zero, suc, ◌+◌, ◌<◌, ◌≤◌, List, [], ◌∷◌, ◌++◌, length, take, pos, Bool, true, false, cond, not, ◌&&◌, ◌||◌, Option, Some, None, option_map, inl, inr, refl, sym, ap, ◌∙◌, subst, arith}
+use Rattle.std.proofs.Common.{◌≡◌, ◌⊎◌, ℕ, suc, ◌<◌, ◌≤◌, List, [], ◌∷◌, ◌++◌, length, pos, Bool, true, false, cond, not, ◌&&◌, ◌||◌, Option, Some, None, option_map, inl, inr, refl, sym, ap, ◌∙◌, subst, arith}
 use Rattle.std.proofs.lemmas.Bool.{cases_Bool, cases_eq, cases_lt, and_parts, and_from, or_cases, or_left, or_right, or_parts, false_from_ne_true, both_ways, eqb-true, eq-eqb, leb-true, le-leb}
 use Rattle.std.proofs.lemmas.Bool.Decides.{nat_tests}
 use Rattle.std.proofs.lemmas.Option.{same_Some}
-use Rattle.std.proofs.Math.Numerals.{suc-eq-add-one}
-use Rattle.std.specs.BTreeSet.{insert_key}
-use Rattle.std.specs.List.{AllByRecursion, filter, list_any, slice_get}
+use Rattle.std.specs.BTreeMap.{is_at}
+use Rattle.std.specs.BTreeSet.{BTreeSet, insert_key, IsFromIterResult}
+use Rattle.std.specs.Set.{is_member}
+use Rattle.std.specs.List.{AllByRecursion, cons_option, filter, filter_map, list_any, slice_get}
 use Rattle.std.specs.List.Sorted.{IsStrictlySortedBy}
 use Rattle.std.specs.Option.{option_and_then, option_map_or, option_or}
-use Rattle.std.specs.Ordering.{nat_cmp, ordering_then, is_gt}
+use Rattle.std.specs.Ordering.{eq_by_cmp, is_eq, is_gt, nat_cmp, ordering_then}
 use Rattle.std.specs.declared.cmp.Ordering.{Ordering}
 use Rattle.std.specs.declared.cmp.Ordering.TheVariants.{Less, Equal, Greater}
-use Rattle.std.proofs.lemmas.List.{take_all}
+use Rattle.std.proofs.lemmas.List.Folds.{list_any-append}
+use Rattle.std.proofs.Math.Bool.{or-false}
 use Rattle.m2m_names.specs.declared.attributes.Attr.{Attr}
 use Rattle.m2m_names.specs.declared.attributes.Attr.TheVariants.{Exc, Mia, St}
 use Rattle.m2m_value.specs.Data.{Data, number as whole_number}
 use Rattle.m2m_value.specs.Shapes.{as_count}
-use Rattle.m2m_names.specs.declared.types.Ty.TheVariants.{ContentInstance, CseBase}
-use Rattle.resource_model.specs.Resource.{ResourceData, has_number, is_ty}
-use Rattle.tree_model.specs.Tree.{age_of, at, has, has_come, due, due_under, end_by, are_quiet, is_quiet, is_due, is_tree, live, may_stand, is_spared, lowered_age, next_after, numbers_of, overdue_numbers, recounted, recounted_at, replaced, restamped, restamped_at, standing, without}
+use Rattle.resource_model.specs.Resource.{ResourceData, has_number}
+use Rattle.tree_model.specs.Tree.{age_of, at, has, has_come, due, due_under, end_by, are_quiet, is_quiet, is_due, is_tree, live, may_stand, is_spared, lowered_age, numbers_of, overdue_numbers, recounted, recounted_at, replaced, restamped, restamped_at, standing, without}
 use Rattle.tree_model.proofs.GrowthLemmas.{IsNext, growth, next_above_parent, next_fits, below_has, below_lacks, at-without, has-filter, stands}
 use Rattle.tree_model.proofs.KeptLemmas.{is_tree-without, without-snoc}
 use Rattle.tree_model.proofs.LiveLemmas.{due-without}
 use Rattle.tree_model.proofs.MarkLemmas.{marked, IsAside, exc_aside, st_aside, other_kept, stood_marked}
 use Rattle.tree_model.proofs.NumberLemmas.{equal_is}
-use Rattle.tree_model.proofs.OrderLemmas.{above_lacks, are_above, ascend, at_place, tree_ascends}
+use Rattle.tree_model.proofs.OrderLemmas.{above_lacks, are_above, ascend, tree_ascends}
 use Rattle.tree_model.proofs.QuietLemmas.{all_by_number, due-append, due-replaced_other, due_case, due_never, due_by_age, due_by_expiry, due_plain}
-use Rattle.tree_model.proofs.TreeLemmas.{at-append, at-replaced, at-replaced_other, at_has, at_none, at_number, filter_among, has-append, staying_wider}
+use Rattle.tree_model.proofs.TreeLemmas.{at-append, at-replaced, at-replaced_other, at_has, at_none, at_number, filter_among, staying_wider}
 use Rattle.resource_store.proofs.LeafLemmas.{leaf_without, others}
-use Rattle.resource_store.proofs.NextLemmas.{until_end, until_next, until_zero}
 use Rattle.m2m_names.specs.Stamps.{last_moment}
-use Rattle.resource_dues.specs.Dues.{due_at, is_listed, is_told, tells, AreTold, AreToldTo, HasDues, IsDueLeaf, TellsAll}
+use Rattle.resource_dues.specs.Dues.{due_at, is_listed, is_told, tells, AreTold, AreToldBut, HasDues, IsDueLeaf, TellsAll}
 use Rattle.resource_dues.specs.declared.dues.Dues.{Dues}
 
 -- ---- one entry more, or less
@@ -49,6 +49,18 @@ pub same_entry : (a b : ℕ × ℕ) → entry_cmp a b ≡ Equal → a ≡ b
 same_entry a b e =
     let parts = then_equal (nat_cmp a.0 b.0) (nat_cmp a.1 b.1) e in
     ap (λ (m : ℕ). (m, a.1)) (equal_is a.0 b.0 parts.0) ∙ ap (λ (n : ℕ). (b.0, n)) (equal_is a.1 b.1 parts.1)
+
+equal_by : (o : Ordering) → is_eq o ≡ true → o ≡ Equal
+equal_by Less e = cc
+equal_by Equal e = refl
+equal_by Greater e = cc
+
+nat_itself : (n : ℕ) → nat_cmp n n ≡ Equal
+nat_itself n = grind (arith, nat_tests)
+
+-- an entry is equal to itself
+itself : (e : ℕ × ℕ) → entry_cmp e e ≡ Equal
+itself e = ap (λ o. ordering_then o (nat_cmp e.1 e.1)) (nat_itself e.0) ∙ nat_itself e.1
 
 module _ (k : ℕ × ℕ) (p : ℕ × ℕ → Bool) where
   pub kept_in : (ks : List (ℕ × ℕ)) → list_any p ks ≡ true → list_any p (insert_key entry_cmp ks k) ≡ true
@@ -352,20 +364,75 @@ due_there nodes n moment come = by (at n nodes) refl
 
 -- ---- a list gone over
 
-pub told_turn : (nodes : List ResourceData) (last : ℕ) (x : ResourceData) (before after : Dues) (number : ℕ) (when : Option ℕ) → is_tree nodes ≡ true → next_after last nodes ≡ Some x → (after.whole ≡ true → before.whole ≡ true) → TellsAll before.moments.keys after.moments.keys → number ≡ x.number → when ≡ due nodes x → ((moment : ℕ) → after.whole ≡ true → when ≡ Some moment → is_told moment number after.moments.keys ≡ true) → AreToldTo last nodes before → AreToldTo number nodes after
-told_turn nodes last x before after number when tree found_next whole_before keeps is_number is_when noted told whole r moment low found due_then =
-    elim (until_next last nodes x r tree found_next found (let same : number ≡ x.number = is_number in omega arith)) [
-      | inl old ↦ keeps moment r.number (told (whole_before whole) r moment old found due_then)
-      | inr is ↦ ap (λ n. is_told moment n after.moments.keys) (ap (λ (y : ResourceData). y.number) is ∙ sym is_number) ∙ noted moment whole (is_when ∙ ap (due nodes) (sym is) ∙ due_then)
+-- the number of a resource that the numbers stand for is among them
+named : (nodes : List ResourceData) (n : ℕ) (ns : List ℕ) → has n (filter_map (λ k. at k nodes) ns) ≡ true → list_any (nat_eq n) ns ≡ true
+named nodes n [] some = absurd (both_ways _ refl some)
+named nodes n (k ∷ ns) some = by (at k nodes) refl (named nodes n ns)
+  where
+    by : (o : Option ResourceData) → at k nodes ≡ o → (has n (filter_map (λ j. at j nodes) ns) ≡ true → list_any (nat_eq n) ns ≡ true) → list_any (nat_eq n) (k ∷ ns) ≡ true
+    by None is rest = or_right (nat_eq n k) _ (rest (sym (ap (λ o. has n (cons_option o (filter_map (λ j. at j nodes) ns))) is) ∙ some))
+    by (Some x) is rest = elim (or_cases (has_number n x) _ (sym (ap (λ o. has n (cons_option o (filter_map (λ j. at j nodes) ns))) is) ∙ some)) [
+      | inl here ↦ or_left _ _ (eq-eqb n k (sym (eqb-true x.number n here) ∙ at_number k nodes x is))
+      | inr later ↦ or_right (nat_eq n k) _ (rest later)
     ]
 
--- nothing stands until 0
-pub told_start : (nodes : List ResourceData) (dues : Dues) → is_tree nodes ≡ true → AreToldTo 0 nodes dues
-told_start nodes dues tree whole r moment low found due_then = absurd (let above : 0 < r.number = until_zero nodes r tree found in omega arith)
+-- all are still to come
+pub told_start : (nodes : List ResourceData) (ns : List ℕ) (entries : List (ℕ × ℕ)) → filter_map (λ k. at k nodes) ns ≡ nodes → AreToldBut ns nodes entries
+told_start nodes ns entries all r moment found when = or_right (is_told moment r.number entries) _ (named nodes r.number ns (ap (has r.number) all ∙ at_has r.number nodes r found))
 
--- and all until the last number
-pub told_end : (nodes : List ResourceData) (last : ℕ) (dues : Dues) → next_after last nodes ≡ None → AreToldTo last nodes dues → HasDues nodes dues
-told_end nodes last dues none told whole r moment found due_then = told whole r moment (until_end last nodes r none found) found due_then
+-- one number more
+pub told_turn : (nodes : List ResourceData) (n : ℕ) (ns rest : List ℕ) (before after : List (ℕ × ℕ)) (when : Option ℕ) → ns ≡ n ∷ rest → when ≡ due_at n nodes → TellsAll before after → ((moment : ℕ) → when ≡ Some moment → is_told moment n after ≡ true) → AreToldBut ns nodes before → AreToldBut rest nodes after
+told_turn nodes n ns rest before after when split is keeps noted told r moment found due_then = elim (or_cases (is_told moment r.number before) _ (told r moment found due_then)) [
+  | inl old ↦ or_left _ _ (keeps moment r.number old)
+  | inr left ↦ elim (or_cases (nat_eq r.number n) _ (sym (ap (list_any (nat_eq r.number)) split) ∙ left)) [
+    | inl here ↦
+        let number : r.number ≡ n = eqb-true r.number n here in
+        let own : when ≡ Some moment = is ∙ ap (λ k. due_at k nodes) (sym number) ∙ ap (option_and_then (λ (s : ResourceData). due nodes s)) found ∙ due_then in
+        or_left _ _ (ap (λ k. is_told moment k after) number ∙ noted moment own)
+    | inr later ↦ or_right (is_told moment r.number after) _ later
+  ]
+]
+
+-- none is
+pub told_end : (nodes : List ResourceData) (ns : List ℕ) (entries after : List (ℕ × ℕ)) → ns ≡ [] → AreToldBut ns nodes entries → TellsAll entries after → AreTold nodes after
+told_end nodes ns entries after none told keeps r moment found when = elim (or_cases (is_told moment r.number entries) _ (told r moment found when)) [
+  | inl old ↦ keeps moment r.number old
+  | inr left ↦ absurd (both_ways _ refl (sym (ap (list_any (nat_eq r.number)) none) ∙ left))
+]
+
+-- one that an entry is told by tells what the entry tells
+any_same : (p : ℕ × ℕ → Bool) (x : ℕ × ℕ) (ks : List (ℕ × ℕ)) → p x ≡ true → list_any (is_at (entry_cmp x)) ks ≡ true → list_any p ks ≡ true
+any_same p x [] passes some = absurd (both_ways _ refl some)
+any_same p x (k ∷ ks) passes some = elim (or_cases (is_at (entry_cmp x) k) _ some) [
+  | inl here ↦ or_left _ _ (ap p (sym (same_entry x k (equal_by (entry_cmp x k) here))) ∙ passes)
+  | inr later ↦ or_right (p k) _ (any_same p x ks passes later)
+]
+
+any_through : (p : ℕ × ℕ → Bool) (xs ks : List (ℕ × ℕ)) → ((e : ℕ × ℕ) → is_member (eq_by_cmp entry_cmp) xs e ≡ true → list_any (is_at (entry_cmp e)) ks ≡ true) → list_any p xs ≡ true → list_any p ks ≡ true
+any_through p [] ks has_each some = absurd (both_ways _ refl some)
+any_through p (x ∷ xs) ks has_each some = elim (or_cases (p x) _ some) [
+  | inl here ↦ any_same p x ks here (has_each x (or_left _ _ (ap is_eq (itself x))))
+  | inr later ↦ any_through p xs ks (λ e within. has_each e (or_right (eq_by_cmp entry_cmp e x) _ within)) later
+]
+
+-- the set that is made of some entries tells what they tell
+pub told_set : (entries : List (ℕ × ℕ)) (set : BTreeSet (ℕ × ℕ)) → IsFromIterResult entry_cmp entries set → TellsAll entries set.keys
+told_set entries set made moment n = told_by moment n entries set.keys (any_through (tells moment n) entries set.keys (λ e within. made.0 e ∙ within))
+
+-- so does a vector with one more
+pub told_pushed : (entries : List (ℕ × ℕ)) (entry : ℕ × ℕ) → TellsAll entries (entries ++ entry ∷ [])
+told_pushed entries entry moment n = told_by moment n entries (entries ++ entry ∷ []) (λ listed. list_any-append (tells moment n) entries (entry ∷ []) ∙ or_left _ _ listed)
+
+-- what one entry tells they tell, where it is among them
+pub told_last : (entries : List (ℕ × ℕ)) (entry : ℕ × ℕ) → TellsAll (entry ∷ []) (entries ++ entry ∷ [])
+told_last entries entry moment n = told_by moment n (entry ∷ []) (entries ++ entry ∷ []) (λ listed. list_any-append (tells moment n) entries (entry ∷ []) ∙ or_right (is_listed moment n entries) _ listed)
+
+pub told_inserted : (entries : List (ℕ × ℕ)) (entry : ℕ × ℕ) → TellsAll (entry ∷ []) (insert_key entry_cmp entries entry)
+told_inserted entries entry moment n = told_by moment n (entry ∷ []) (insert_key entry_cmp entries entry) (λ listed. put_in entry (tells moment n) entries (sym (or-false (tells moment n entry)) ∙ listed))
+
+-- what none has to tell any tell
+pub told_by_none : (entries : List (ℕ × ℕ)) → TellsAll [] entries
+told_by_none entries moment n = told_by moment n [] entries (λ listed. absurd (both_ways _ refl listed))
 
 pub nothing_listed : (moment n : ℕ) (entries : List (ℕ × ℕ)) → (0 < length entries → ⊥) → is_listed moment n entries ≡ true → ⊥
 nothing_listed moment n [] none told = both_ways _ refl told

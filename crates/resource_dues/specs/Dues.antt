@@ -1,5 +1,5 @@
 -- Moments at which resources are due, with their numbers.
-use Rattle.std.specs.Prelude.{◌≡◌, ◌≤◌, ◌&&◌, ◌||◌, ℕ, nat_eq, nat_le, List, [], Bool, true, false}
+use Rattle.std.specs.Prelude.{◌≡◌, ◌&&◌, ◌||◌, ℕ, nat_eq, nat_le, List, [], Bool, true, false}
 use Rattle.std.specs.Prelude.{Option, Some, option_and_then}
 use Rattle.m2m_names.specs.Stamps.{last_moment}
 use Rattle.std.specs.Option.{option_map_or}
@@ -34,11 +34,11 @@ TellsAll before after =
 abbrev pub HasDues : List ResourceData → Dues → Type 0
 HasDues nodes dues = dues.whole ≡ true → AreTold nodes dues.moments.keys
 
--- so does one that was made so far, of those until a number
-abbrev pub AreToldTo : ℕ → List ResourceData → Dues → Type 0
-AreToldTo last nodes dues = dues.whole ≡ true → (r : ResourceData) (moment : ℕ)
-    → r.number ≤ last → at r.number nodes ≡ Some r
-    → due nodes r ≡ Some moment → is_told moment r.number dues.moments.keys ≡ true
+-- the entries so far do, but for resources whose numbers are still to come
+abbrev pub AreToldBut : List ℕ → List ResourceData → List (ℕ × ℕ) → Type 0
+AreToldBut left nodes entries = (r : ResourceData) (moment : ℕ) → at r.number nodes ≡ Some r
+    → due nodes r ≡ Some moment
+    → (is_told moment r.number entries || list_any (nat_eq r.number) left) ≡ true
 
 -- when the resource of a number is due
 abbrev pub due_at : ℕ → List ResourceData → Option ℕ

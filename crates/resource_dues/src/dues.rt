@@ -1,6 +1,6 @@
 //! When resources are due.
-ghost use Rattle.std.specs.Prelude.{◌≡◌, ◌≤◌, ℕ, List, [], Some, None, true, false, nat_eq, OnOk};
-ghost use Rattle.std.specs.Prelude.{IsTrue, slice_get, option_map};
+ghost use Rattle.std.specs.Prelude.{◌≡◌, ◌≤◌, ℕ, List, [], Some, None, true, false, nat_eq};
+ghost use Rattle.std.specs.Prelude.{IfOk, IsTrue, OnOk, slice_get, option_map, option_to_list};
 ghost use Rattle.std.specs.Option.{option_map_or};
 ghost use Rattle.resource_model.specs.Resource.{ResourceData};
 ghost use Rattle.tree_model.specs.Tree as tree;
@@ -42,17 +42,20 @@ impl Dues {
         }
     }
 
-    /// Those of a list. Where memory runs out, some are missing.
+    /// Those of a list. Where memory runs out, there is none, and the table isn't whole.
     pub fn of(alloc: Global, list: &Store) -> Dues
         ensures { HasDues list.now result }
     {
-        let mut dues = Dues::new(alloc);
-        let mut last = 0;
-        while let Some(resource) = list.after(last) {
-            last = resource.number();
-            dues.note(list.due(resource), last);
+        match moments_of(alloc, list) {
+            Ok(moments) => Dues {
+                moments,
+                whole: true,
+            },
+            Err(_) => Dues {
+                moments: BTreeSet::new(alloc),
+                whole: false,
+            },
         }
-        dues
     }
 
     /// With the moment at which the resource of a number is due, if it ever is.
@@ -62,13 +65,9 @@ impl Dues {
         ensures ok { (moment : ℕ) → OnOk result (due ≡ Some moment
             → is_told moment number self.new.moments.keys ≡ true) }
     {
-        let Some(moment) = due else {
-            return Ok(());
-        };
-        if LAST_MOMENT <= moment {
-            return Ok(());
+        if let Some(entry) = entry_of(due, number) {
+            self.moments.insert(entry)?;
         }
-        self.moments.insert((moment, number))?;
         Ok(())
     }
 
@@ -206,6 +205,52 @@ impl Dues {
     {
         self.moments.retain(|entry| list.has(entry.1));
     }
+}
+
+// The entry of a number that is due at a moment, if it needs one: at the last moment none does.
+fn entry_of(due: Option<u64>, number: u64) -> Option<(u64, u64)>
+    ensures { (moment : ℕ) → due ≡ Some moment
+        → is_told moment number (option_to_list result) ≡ true }
+{
+    let moment = due?;
+    if LAST_MOMENT <= moment {
+        return None;
+    }
+    Some((moment, number))
+}
+
+// The entries of all resources of a list, made at once.
+fn moments_of(alloc: Global, list: &Store) -> Result<BTreeSet<(u64, u64)>, OutOfMemory>
+    ensures { IfOk result (λ moments. AreTold list.now moments.keys) }
+{
+    let mut entries = Vec::new(alloc);
+    for number in list.numbers() {
+        push_entry(&mut entries, due_of(list, *number), *number)?;
+    }
+    in_order(alloc, entries)
+}
+
+// Pushes the entry of a number, if it needs one.
+fn push_entry(
+    entries: &mut Vec<(u64, u64)>,
+    due: Option<u64>,
+    number: u64,
+) -> Result<(), OutOfMemory>
+    ensures kept { TellsAll entries.old.items entries.new.items }
+    ensures ok { OnOk result ((moment : ℕ) → due ≡ Some moment
+        → is_told moment number entries.new.items ≡ true) }
+{
+    if let Some(entry) = entry_of(due, number) {
+        entries.push(entry)?;
+    }
+    Ok(())
+}
+
+// The entries in order, the earliest first.
+fn in_order(alloc: Global, entries: Vec<(u64, u64)>) -> Result<BTreeSet<(u64, u64)>, OutOfMemory>
+    ensures { IfOk result (λ moments. TellsAll entries.items moments.keys) }
+{
+    BTreeSet::from_iter(alloc, entries)
 }
 
 /// When the resource of a number is due, if it is there and ever is.

@@ -1,8 +1,8 @@
-use Rattle.std.proofs.Common.{◌≡◌, ◌≤◌, ℕ, true, refl, arith, inl, inr}
-use Rattle.std.specs.Prelude.{min, nat_le}
+use Rattle.std.proofs.Common.{◌≤◌, refl, arith, inl, inr}
+use Rattle.std.specs.Prelude.{nat_le}
 use Rattle.std.proofs.lemmas.Bool.{both_ways, leb-true, or_cases}
 use Rattle.m2m_names.specs.Stamps.{last_moment}
-use Rattle.resource_dues.specs.Dues.{is_listed, is_told}
+use Rattle.resource_dues.specs.Dues.{is_listed}
 use Rattle.resource_dues.proofs.DuesLemmas.{first_least, nothing_listed, quiet_until}
 use Rattle.resource_dues.proofs.dues.Dues.quiet.Goals as goal
 
