@@ -4,7 +4,7 @@ use Rattle.std.proofs.Common.{◌≡◌, ◌==◌, ℕ, List, [], ◌∷◌, ◌
 use Rattle.std.proofs.lemmas.Bool.{cases_Bool, and_parts, and_from, both_ways, eq-eqb, eqb-true, false_from_ne_true, not-true, not_from_false, or_cases, or_left, or_parts, or_right}
 use Rattle.std.specs.List.{filter, list_any, AllByRecursion}
 use Rattle.resource_model.specs.Resource.{ResourceData, has_number}
-use Rattle.tree_model.specs.Tree.{has, is_due, is_numbered_in, is_tree, live, numbers_of, overdue_numbers, stays, staying, without, without_all}
+use Rattle.tree_model.specs.Tree.{has, is_due, is_numbered_in, is_tree, live, numbers_of, overdue_numbers, stays, staying, without_all}
 use Rattle.tree_model.proofs.KeptLemmas.{is_tree-without}
 use Rattle.tree_model.proofs.LiveLemmas.{without_none}
 use Rattle.tree_model.proofs.OrderLemmas.{tree_ascends}

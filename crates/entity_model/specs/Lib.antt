@@ -6,3 +6,4 @@ pub mod Places
 pub mod Sound
 pub mod Lowering
 pub mod Telling
+pub mod Unnoticed

@@ -1,15 +1,20 @@
 //! The expiry.
-ghost use Rattle.std.specs.Prelude.{◌≡◌, ℕ, ◌≤◌, List, [], length, IfOk, OnOk, OnErr, IsTrue};
-ghost use Rattle.announce_copy.specs.Copies.{copies_of, copies_of_all};
+ghost use Rattle.std.specs.Prelude.{◌≡◌, ℕ, ◌≤◌, List, [], length, false};
+ghost use Rattle.std.specs.Prelude.{IfOk, IfSome, OnOk, OnErr, IsTrue};
+ghost use Rattle.std.specs.Option.{option_map_or};
+ghost use Rattle.announce_copy.specs.Below as below;
+ghost use Rattle.announce_copy.specs.Copies.{copies_of_all};
 ghost use Rattle.resource_model.specs.Home.{HomeData};
 ghost use Rattle.subscription_match.specs.Notices.{notes_of, notes_of_all};
 ghost use Rattle.notify_outbox.specs.Outbox.{dropped};
-ghost use Rattle.tree_model.specs.Changes.{change_of, deleted, removal_changes};
-ghost use Rattle.tree_model.specs.Tree.{is_tree, live, overdue_numbers, subs_of, DoAscend};
+ghost use Rattle.tree_model.specs.Changes.{deleted, removal_changes};
+ghost use Rattle.tree_model.specs.Tree.{at, is_instance, is_tree, is_well_formed, live};
+ghost use Rattle.tree_model.specs.Tree.{overdue_numbers, subs_of, DoAscend};
 ghost use Rattle.entity_model.specs.Entity as spec;
 ghost use Rattle.entity_model.specs.Entity.{expired, expired_told, last_reading, swept};
 ghost use Rattle.entity_model.specs.Telling.{IsTold};
 ghost use Rattle.entity_model.specs.Expiry.{is_some_due};
+ghost use Rattle.entity_model.specs.Unnoticed.{GoesUnnoticed, LosesUnnoticed};
 
 use crate::entity::Entity;
 use crate::moments::event_moment;
@@ -19,7 +24,7 @@ use announce_copy::lists_peers;
 use m2m_names::Ty;
 use notify_outbox::Outbox;
 use std::alloc::{AllocError as OutOfMemory, Global};
-use tree_model::{Change, Changes, Home, Resource, Tree};
+use tree_model::{Changes, Home, Resource, Tree};
 
 /// Brings the entity to the moment of an event at which the clock reads so, in seconds since 1970:
 /// what is due by then is removed, with all that stands below it, and so are the items that have
@@ -109,14 +114,15 @@ fn prepare_expiry<T: Tree>(
     outbox: &mut Outbox,
     gone: &[u64],
 ) -> Result<Told, OutOfMemory>
-    requires { DoAscend gone.now }
+    requires ascend { DoAscend gone.now }
+    requires formed { IsTrue (is_well_formed (T.nodes tree.now)) }
     ensures told { IfOk result (IsTold home.now (T.nodes tree.now) gone.now
         (removal_changes (T.nodes tree.now) gone.now)) }
     ensures room { IfOk result (λ t. length t.notes.items ≤ outbox.new.room) }
     ensures items { outbox.new.items ≡ outbox.old.items }
     ensures count { outbox.new.count ≡ outbox.old.count }
 {
-    if are_unnoticed(tree, Changes::of_removal(tree, gone)) {
+    if are_unnoticed(tree, gone) {
         return Ok(nothing_told(alloc));
     }
     let changes = Changes::of_removal(tree, gone);
@@ -124,34 +130,107 @@ fn prepare_expiry<T: Tree>(
     prepare_telling(alloc, tree, home, outbox, gone, changes, again)
 }
 
-// Whether it is sure that nobody is told of these changes, and that nothing is sent to where copies
-// stand.
-fn are_unnoticed<T: Tree>(tree: &T, changes: Changes<'_, T>) -> bool
+// Whether it is sure that nobody is told that the resources of these numbers go, and that nothing is
+// sent to where copies stand. Most of what expires are instances of one container: the last
+// container whose instances go unnoticed is kept, and an instance of it isn't looked at any further.
+fn are_unnoticed<T: Tree>(tree: &T, gone: &[u64]) -> bool
+    requires { IsTrue (is_well_formed (T.nodes tree.now)) }
     ensures told { IsTrue result → (home : HomeData) (going : List ℕ)
-        → notes_of_all home (T.nodes tree.now) going changes.entry ≡ [] }
-    ensures sent { IsTrue result → (home : HomeData)
-        → copies_of_all home (T.nodes tree.now) changes.entry ≡ [] }
+        → notes_of_all home (T.nodes tree.now) going
+        (removal_changes (T.nodes tree.now) gone.now) ≡ [] }
+    ensures sent { IsTrue result → (home : HomeData) → copies_of_all home (T.nodes tree.now)
+        (removal_changes (T.nodes tree.now) gone.now) ≡ [] }
 {
-    let mut left = changes;
-    while let Some(change) = left.next() {
-        if !is_unnoticed(tree, change) {
+    let mut container: Option<u64> = None;
+    for number in gone {
+        if !goes_unnoticed(tree, *number, &mut container) {
             return false;
         }
     }
     true
 }
 
-// The same of one change: of what goes, where nobody is told that it is gone and it lists no CSE in
-// `at`.
-fn is_unnoticed<T: Tree>(tree: &T, change: Change<'_>) -> bool
-    ensures told { IsTrue result → (home : HomeData) (going : List ℕ)
-        → notes_of home (T.nodes tree.now) going (change_of change.entry) ≡ [] }
-    ensures sent { IsTrue result → (home : HomeData)
-        → copies_of home (T.nodes tree.now) (change_of change.entry) ≡ [] }
+// The same of the resource of one number, and of that container the one to keep behind it.
+fn goes_unnoticed<T: Tree>(tree: &T, number: u64, container: &mut Option<u64>) -> bool
+    requires formed { IsTrue (is_well_formed (T.nodes tree.now)) }
+    requires container { IfSome container.old (LosesUnnoticed (T.nodes tree.now)) }
+    ensures unnoticed { IsTrue result
+        → IfSome (at number (T.nodes tree.now)) (GoesUnnoticed (T.nodes tree.now)) }
+    ensures container { IfSome container.new (LosesUnnoticed (T.nodes tree.now)) }
 {
-    let Change::Deleted(gone) = change else {
-        return false;
+    let Some(gone) = tree.get(number) else {
+        return true;
     };
+    *container = unnoticed_container(tree, gone, *container);
+    if container.is_some() {
+        return true;
+    }
+    is_unnoticed(tree, gone)
+}
+
+// The container of an instance, where its instances go unnoticed. Nothing is asked where it is the
+// one that is known.
+fn unnoticed_container<T: Tree>(tree: &T, gone: &Resource, known: Option<u64>) -> Option<u64>
+    requires { IfSome known (LosesUnnoticed (T.nodes tree.now)) }
+    ensures { IfSome result (λ n.
+        IsTrue (is_instance n gone.now) × LosesUnnoticed (T.nodes tree.now) n) }
+{
+    if is_instance_of(gone, known) {
+        return known;
+    }
+    own_container(tree, gone)
+}
+
+// Whether a resource is an instance of this container.
+fn is_instance_of(resource: &Resource, container: Option<u64>) -> bool
+    ensures { result ≡ option_map_or (λ n. is_instance n resource.now) container false }
+{
+    match container {
+        Some(number) => resource.parent() == number && resource.is(Ty::ContentInstance),
+        None => false,
+    }
+}
+
+fn own_container<T: Tree>(tree: &T, gone: &Resource) -> Option<u64>
+    ensures { IfSome result (λ n.
+        IsTrue (is_instance n gone.now) × LosesUnnoticed (T.nodes tree.now) n) }
+{
+    if !gone.is(Ty::ContentInstance) {
+        return None;
+    }
+    if !loses_unnoticed(tree, gone.parent()) {
+        return None;
+    }
+    Some(gone.parent())
+}
+
+// Whether the instances of the container of a number go unnoticed: no subscription stands under it,
+// and it lists no CSE in `at`.
+fn loses_unnoticed<T: Tree>(tree: &T, number: u64) -> bool
+    ensures { IsTrue result → LosesUnnoticed (T.nodes tree.now) number }
+{
+    if !is_unwatched(tree, number) {
+        return false;
+    }
+    lists_none(tree, number)
+}
+
+// Whether the resource of a number lists no CSE in `at`.
+fn lists_none<T: Tree>(tree: &T, number: u64) -> bool
+    ensures { IsTrue result
+        → option_map_or below.lists_peers (at number (T.nodes tree.now)) false ≡ false }
+{
+    match tree.get(number) {
+        Some(resource) => !lists_peers(resource),
+        None => true,
+    }
+}
+
+// Whether it is sure that a resource goes unnoticed, where nothing is known of its parent: nobody is
+// told that it is gone, and it lists no CSE in `at`.
+fn is_unnoticed<T: Tree>(tree: &T, gone: &Resource) -> bool
+    ensures { IsTrue result → GoesUnnoticed (T.nodes tree.now) gone.now }
+{
     if lists_peers(gone) {
         return false;
     }

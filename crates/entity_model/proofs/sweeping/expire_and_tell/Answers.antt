@@ -15,12 +15,15 @@ use Rattle.entity_model.proofs.TellingLemmas.{sound_telling}
 use Rattle.entity_model.proofs.WaitingLemmas.{waiting_each}
 use Rattle.entity_model.proofs.sweeping.expire_and_tell.Goals as goal
 
-pub prepare_expiry-requires : goal.prepare_expiry-requires
-prepare_expiry-requires g c =
+pub prepare_expiry-requires-clause-ascend : goal.prepare_expiry-requires-clause-ascend
+prepare_expiry-requires-clause-ascend g c =
     let nodes = g.T.Tree.nodes c.entity.inside.tree in
     let moment = c.args.moment in
     let gone : c.args.gone.now ≡ overdue_numbers moment nodes = c.requires.gone ∙ sym (ap (λ (e : EntityData). overdue_numbers moment e.nodes) c.entity.view_is) in
     subst DoAscend (sym gone) (ascending_filter (λ r. not (has r.number (live moment nodes))) nodes (ascending_from_tree nodes (tree_from_well_formed nodes c.entity.invariant.tree)))
+
+pub prepare_expiry-requires-clause-formed : goal.prepare_expiry-requires-clause-formed
+prepare_expiry-requires-clause-formed g c = c.entity.invariant.tree
 
 pub age_without-requires-clause-tree : goal.age_without-requires-clause-tree
 age_without-requires-clause-tree g c = tree_from_well_formed (g.T.Tree.nodes c.entity.inside.tree) c.entity.invariant.tree

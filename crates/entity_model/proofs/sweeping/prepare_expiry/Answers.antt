@@ -1,7 +1,5 @@
-use Rattle.std.proofs.Common.{◌≡◌, List, [], length, ap, subst, arith}
-use Rattle.announce_copy.specs.Copies.{copies_of_all}
-use Rattle.subscription_match.specs.Notices.{notes_of_all}
-use Rattle.tree_model.specs.Changes.{ChangeData, removal_changes}
+use Rattle.std.proofs.Common.{◌≡◌, length, ap, arith}
+use Rattle.tree_model.specs.Changes.{removal_changes}
 use Rattle.entity_model.proofs.TellingLemmas.{none_requested}
 use Rattle.entity_model.proofs.sweeping.prepare_expiry.Goals as goal
 
@@ -11,10 +9,8 @@ returns-then-are_unnoticed-clause-told g c =
     let nodes = g.T.Tree.nodes c.args.tree.now in
     let home = c.args.home.now in
     let gone = c.args.gone.now in
-    let untold : notes_of_all home nodes gone (removal_changes nodes gone) ≡ [] =
-    subst (λ (cs : List ChangeData). notes_of_all home nodes gone cs ≡ []) c.of_removal.ensures (c.are_unnoticed.ensures.told c.if-are_unnoticed.true home gone) in
-    let unsent : copies_of_all home nodes (removal_changes nodes gone) ≡ [] =
-    subst (λ (cs : List ChangeData). copies_of_all home nodes cs ≡ []) c.of_removal.ensures (c.are_unnoticed.ensures.sent c.if-are_unnoticed.true home) in
+    let untold = c.are_unnoticed.ensures.told c.if-are_unnoticed.true home gone in
+    let unsent = c.are_unnoticed.ensures.sent c.if-are_unnoticed.true home in
     c.nothing_told.ensures.told home nodes gone (removal_changes nodes gone) untold (none_requested home nodes (removal_changes nodes gone) unsent)
 
 pub returns-then-are_unnoticed-clause-room : goal.returns-then-are_unnoticed-clause-room

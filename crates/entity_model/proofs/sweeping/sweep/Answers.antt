@@ -1,8 +1,6 @@
-use Rattle.std.proofs.Common.{◌≡◌, ℕ, ◌≤◌, true, sym, ap, ◌∙◌, subst, arith}
+use Rattle.std.proofs.Common.{◌≡◌, ℕ, ◌≤◌, sym, ap, ◌∙◌, subst, arith}
 use Rattle.std.proofs.lemmas.Result.{on_ok_weaker}
-use Rattle.m2m_value.proofs.Begins.{on_err}
 use Rattle.entity_model.specs.Entity.{EntityData, cut, event_moment, expired_told, swept}
-use Rattle.entity_model.specs.Expiry.{is_some_due}
 use Rattle.entity_model.proofs.TellingLemmas.{swept_still}
 use Rattle.entity_model.proofs.sweeping.sweep.Goals as goal
 
