@@ -4,7 +4,7 @@ use Rattle.std.specs.Prelude.{Result, Ok, Err, OnOk}
 use Rattle.std.proofs.lemmas.Bool.{cases_Bool, cases_eq, eqb-true}
 use Rattle.std.proofs.lemmas.Bool.Decides.{nat_tests}
 use Rattle.std.proofs.lemmas.List.{take_at, drop_at, drop_more, take_all, drop_all, append-nil}
-use Rattle.kept_file.specs.Crashes.{LeavesThis, Overwrites, Replaces, TornCut, TornWrite}
+use Rattle.kept_file.specs.Crashes.{LeavesThis, Overwrites, OverwritesOrNot, Replaces, TornCut, TornWrite}
 use Rattle.journal_file.specs.declared.journal.Journal.{Journal}
 use Rattle.journal_file.specs.Gates.{Begins, IsSettled, KeepsText, KeepsBeforeOrAfter, KeepsOneOf, at_rest, is_batch, is_shut, text_of}
 
@@ -231,3 +231,24 @@ stayed_settled seen may_leave old new settled same len kept =
       },
       text,
     )
+
+-- ---- a batch that is put whole
+
+-- behind a text at rest it leaves both at rest
+whole_put : (text old batch new : List ℕ) (len : ℕ) → length text ≡ len → old ≡ at_rest text
+    → Overwrites old len (batch ++ 10 ∷ []) new → new ≡ at_rest (text ++ batch)
+whole_put text old batch new len size rest over =
+    let bytes = batch ++ 10 ∷ [] in
+    let past : length old ≤ len + length bytes = omega (arith, ap length rest, rest_size text len size, length-append batch (10 ∷ [])) in
+    over
+    ∙ ap (λ (l : List ℕ). l ++ bytes ++ drop (len + length bytes) old) (text_at_rest text old len size rest)
+    ∙ ap (λ (l : List ℕ). text ++ bytes ++ l) (drop_all (len + length bytes) old past)
+    ∙ append-nil (text ++ bytes)
+    ∙ sym (append_assoc text batch (10 ∷ []))
+
+-- a crash leaves the text, or the text with the batch
+pub whole_or_not : (text old batch : List ℕ) (len : ℕ) → length text ≡ len → old ≡ at_rest text
+    → (c : List ℕ) → OverwritesOrNot len (batch ++ 10 ∷ []) old c → KeepsBeforeOrAfter text batch c
+whole_or_not text old batch len size rest c step = ⊎_elim
+    (λ same. inl (subst (KeepsText text) (sym (same ∙ rest)) (rest_keeps text)))
+    (λ over. inr (subst (KeepsText (text ++ batch)) (sym (whole_put text old batch c len size rest over)) (rest_keeps (text ++ batch)))) step

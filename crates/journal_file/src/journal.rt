@@ -107,7 +107,7 @@ impl<F: KeptFile> Journal<F> {
             self.is_failed = true;
             return Err(Failed);
         };
-        let done = put(&mut self.file, self.len, batch);
+        let done = put_batch(&mut self.file, self.len, batch);
         match done {
             Ok(()) => self.len = end,
             Err(Failed) => self.is_failed = true,
@@ -163,4 +163,26 @@ fn put<F: KeptFile>(file: &mut F, len: usize, batch: &[u8]) -> Result<(), Failed
 {
     write_behind(file, len + 1, &batch[1..])?;
     write_synced(file, len, b"@")
+}
+
+/// Puts a batch and a closed gate behind a text of so many bytes: in one step, where the file has
+/// one.
+fn put_batch<F: KeptFile>(file: &mut F, len: usize, batch: &[u8]) -> Result<(), Failed>
+    requires batch { is_batch batch.now ≡ true }
+    requires room { len + length batch.now < 2 ^ 64 }
+    requires len { F.tells → length (take len (F.seen file.old)) ≡ len }
+    requires rest { F.tells → F.seen file.old ≡ at_rest (take len (F.seen file.old)) }
+    requires kept { F.tells → LeavesThis (F.seen file.old) (F.may_leave file.old) }
+    ensures rest { F.tells → OnOk result
+        (F.seen file.new ≡ at_rest (take len (F.seen file.old) ++ batch.now)) }
+    ensures kept { F.tells → OnOk result (LeavesThis (F.seen file.new) (F.may_leave file.new)) }
+    ensures any_moment { F.tells → LeavesOnly F.moment F.left_since file.old file.new
+        (KeepsBeforeOrAfter (take len (F.seen file.old)) batch.now) }
+    ensures faults { CountsFaults result (F.faults file.old) (F.faults file.new) }
+{
+    match file.put_whole(len, batch, b'\n') {
+        Ok(true) => Ok(()),
+        Ok(false) => put(file, len, batch),
+        Err(Failed) => Err(Failed),
+    }
 }

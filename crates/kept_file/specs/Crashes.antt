@@ -5,6 +5,10 @@ use Rattle.std.specs.Prelude.{◌≡◌, ◌⊎◌, ℕ, ◌+◌, ◌≤◌, min
 abbrev pub Overwrites : List ℕ → ℕ → List ℕ → List ℕ → Type 0
 Overwrites old at bytes new = new ≡ take at old ++ bytes ++ drop (at + length bytes) old
 
+-- A write in one step: the bytes are the old ones, or have these over them from a place on.
+abbrev pub OverwritesOrNot : ℕ → List ℕ → List ℕ → List ℕ → Type 0
+OverwritesOrNot at bytes old new = (new ≡ old) ⊎ Overwrites old at bytes new
+
 -- What a crash leaves of a write of so many bytes at a place: anything in that place and past the
 -- old end, and the old bytes elsewhere.
 pub record TornWrite (at n : ℕ) (old new : List ℕ) : Type 0 where

@@ -1,7 +1,8 @@
 //! A file that outlives the program.
-ghost use Rattle.std.specs.Prelude.{◌≡◌, ◌≤◌, ℕ, List, length, take, IfOk, OnOk};
-ghost use Rattle.kept_file.specs.Crashes.{ComesBy, GoesOn, LeavesNoMore, LeavesThis, Overwrites};
-ghost use Rattle.kept_file.specs.Crashes.{TornCut, TornWrite};
+ghost use Rattle.std.specs.Prelude.{◌≡◌, ◌≤◌, ◌++◌, ◌∷◌, [], ℕ, List, length, take, IfOk, OnOk};
+ghost use Rattle.std.specs.Prelude.{◌≢◌, Ok, true, false};
+ghost use Rattle.kept_file.specs.Crashes.{ComesBy, GoesOn, LeavesNoMore, LeavesOnly, LeavesThis};
+ghost use Rattle.kept_file.specs.Crashes.{Overwrites, OverwritesOrNot, TornCut, TornWrite};
 ghost use Rattle.kept_file.specs.declared.fault.FileFault.TheVariants.{Failed as failed};
 ghost use Rattle.m2m_io.specs.Counts.{CountsFault, CountsFaults};
 
@@ -78,6 +79,32 @@ pub trait KeptFile {
         ensures time { tells → GoesOn (moment self.old) (moment self.new)
             (left_since self.old) (left_since self.new) (may_leave self.new) }
         ensures faults { CountsFaults result (faults self.old) (faults self.new) };
+
+    /// Writes all of this and one byte more over what stands at a place, and past the end, in one
+    /// step, and has a crash leave it from then on; tells whether it did. A file that has no such
+    /// step stays as it is.
+    fn put_whole(&mut self, at: usize, bytes: &[u8], last: u8) -> Result<bool, Failed>
+        requires within { tells → at ≤ length (seen self.old) }
+        requires kept { tells → LeavesThis (seen self.old) (may_leave self.old) }
+        ensures written { tells → IfOk result (λ done. done ≡ true
+            → Overwrites (seen self.old) at (bytes.now ++ last ∷ []) (seen self.new)) }
+        ensures durable { tells → IfOk result (λ done. done ≡ true
+            → LeavesThis (seen self.new) (may_leave self.new)) }
+        ensures stays { IfOk result (λ done. done ≡ false → self.new ≡ self.old) }
+        // A crash at any moment leaves all of it or nothing of it.
+        ensures any_moment { tells → result ≢ Ok false
+            → LeavesOnly moment left_since self.old self.new
+            (OverwritesOrNot at (bytes.now ++ last ∷ []) (seen self.old)) }
+        ensures faults { CountsFaults result (faults self.old) (faults self.new) }
+    {
+        Ok(false)
+    }
+
+    /// Whether the file is still this program's alone. Where it isn't, another program may have
+    /// changed it, so that nothing may be answered from what was read of it. No clause says when.
+    fn is_held(&self) -> bool {
+        true
+    }
 
     /// This moment is one of those since an earlier one.
     ghost counts_now: { tells → (file : Self) (t : ℕ) (c : List ℕ) → t ≤ moment file

@@ -202,6 +202,10 @@ impl<O: Recorder, F: NamedFile> Object for KeptObject<O, F> {
         if self.journal.is_failed() {
             return Report::Failed;
         }
+        if !self.journal.file().is_held() {
+            self.journal.give_up();
+            return Report::Failed;
+        }
         match event {
             Turn::Do(event) => self.take_step(reading, event),
             Turn::Settle => self.settle(),
