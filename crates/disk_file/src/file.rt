@@ -3,11 +3,10 @@ ghost use Rattle.std.specs.Prelude.{◌≡◌, [], ⊤, IsErr};
 ghost use Rattle.m2m_io.specs.Counts.{CountsFaults};
 
 use crate::OpenFault;
-use crate::opening::{
-    beside, is_absent, make, make_like, open_filled, open_there, place, sync_name,
-};
+use crate::opening::{is_absent, make, make_over, open_there};
 use crate::operator::Operator;
-use kept_file::{Failed, FileFault, KeptFile, KeptName};
+use crate::whose::Owner;
+use kept_file::{Failed, FileFault, KeptFile};
 use std::alloc::{AllocError, Global};
 use std::fs::File;
 use std::io;
@@ -18,36 +17,69 @@ use std::os::unix::fs::FileExt;
 #[derive(Drop)]
 pub struct DiskFile {
     file: File,
+    /// How many bytes it has.
+    len: u64,
     faults: u64,
     operator: Operator,
 }
 
+/// Opens the file of a name, or makes it with these bytes, where nothing has the name or a file
+/// without a byte. Who runs the program is told that it was made.
+fn open_or_make(
+    rt: &HostRuntime,
+    path: &str,
+    first: &[u8],
+    operator: &Operator,
+) -> Result<File, OpenFault> {
+    if is_absent(rt, path)? {
+        let made = make(rt, path, first)?;
+        operator.tell_made();
+        return Ok(made);
+    }
+    let there = open_there(rt, path)?;
+    if there.metadata()?.len() > 0 {
+        return Ok(there);
+    }
+    let made = make_over(rt, path, first)?;
+    operator.tell_made();
+    Ok(made)
+}
+
 impl DiskFile {
     /// Opens the file of a name. Where nothing has it, or a file without a byte, the file is made
-    /// with these bytes.
+    /// with these bytes, and that is told on standard error.
     pub fn open(rt: &HostRuntime, path: &str, first: &[u8]) -> Result<DiskFile, OpenFault> {
         let operator = Operator::new(rt, path)?;
-        let file = if is_absent(rt, path)? {
-            make(rt, path, first)?
-        } else {
-            open_filled(rt, path, first)?
-        };
-        Ok(DiskFile {
-            file,
-            faults: 0,
-            operator,
-        })
+        let file = open_or_make(rt, path, first, &operator)?;
+        DiskFile::of(file, operator)
     }
 
     /// Opens the file that has a name.
     pub fn open_there(rt: &HostRuntime, path: &str) -> Result<DiskFile, OpenFault> {
         let operator = Operator::new(rt, path)?;
         let file = open_there(rt, path)?;
+        DiskFile::of(file, operator)
+    }
+
+    /// This open file, of which this operator is told.
+    pub(crate) fn of(file: File, operator: Operator) -> Result<DiskFile, OpenFault> {
+        let len = file.metadata()?.len();
         Ok(DiskFile {
             file,
+            len,
             faults: 0,
             operator,
         })
+    }
+
+    /// The file.
+    pub(crate) fn file(&self) -> &File {
+        &self.file
+    }
+
+    /// Whose journal the file is.
+    pub(crate) fn owner(&self, alloc: Global) -> Result<Owner, OpenFault> {
+        Ok(Owner::of(alloc, &self.file)??)
     }
 
     /// Counts a fault.
@@ -65,10 +97,12 @@ impl DiskFile {
     {
         let DiskFile {
             file,
+            len,
             faults: _,
             operator: _,
         } = other;
         self.file = file;
+        self.len = len;
     }
 
     /// What a call of the system did; an error counts as a fault, and is told.
@@ -82,6 +116,16 @@ impl DiskFile {
                 self.faults = self.faults.saturating_add(1);
                 Err(Failed)
             }
+        }
+    }
+
+    /// Gives back what a write that failed took behind the end of the file: the disk may be full, and
+    /// the next start is to find nothing there.
+    fn give_back(&self) {
+        if let Ok(found) = self.file.metadata()
+            && found.len() > self.len
+        {
+            let _ = self.file.set_len(self.len);
         }
     }
 }
@@ -124,11 +168,20 @@ impl KeptFile for DiskFile {
 
     fn write_at(&mut self, at: usize, bytes: &[u8]) -> Result<(), Failed> {
         let done = self.file.write_all_at(bytes, at as u64);
+        if done.is_err() {
+            self.give_back();
+        } else {
+            let end = at.saturating_add(bytes.len()) as u64;
+            self.len = self.len.max(end);
+        }
         self.counted(done)
     }
 
     fn cut(&mut self, len: usize) -> Result<(), Failed> {
         let done = self.file.set_len(len as u64);
+        if done.is_ok() {
+            self.len = len as u64;
+        }
         self.counted(done)
     }
 
@@ -141,91 +194,6 @@ impl KeptFile for DiskFile {
 
     fn sync(&mut self) -> Result<(), Failed> {
         let done = self.file.sync_data();
-        self.counted(done)
-    }
-}
-
-/// The name of a file of the system, in whose place another one can be put. Each error of the
-/// system is a fault, and is told on standard error. What its calls need of memory it has already.
-#[derive(Drop)]
-pub struct DiskName {
-    rt: HostRuntime,
-    beside: String,
-    faults: u64,
-    operator: Operator,
-}
-
-/// Makes a file without a byte beside the one of which this operator is told, with the owner and
-/// the rights of that one.
-fn blank_beside(
-    rt: &HostRuntime,
-    beside: &str,
-    operator: &Operator,
-) -> Result<DiskFile, OpenFault> {
-    let operator = operator.again()?;
-    let file = make_like(rt, beside, operator.name())?;
-    Ok(DiskFile {
-        file,
-        faults: 0,
-        operator,
-    })
-}
-
-impl DiskName {
-    /// This name.
-    pub fn new(rt: &HostRuntime, path: &str) -> Result<DiskName, AllocError> {
-        Ok(DiskName {
-            rt: *rt,
-            beside: beside(rt, path)?,
-            faults: 0,
-            operator: Operator::new(rt, path)?,
-        })
-    }
-
-    /// What was done; what wasn't counts as a fault, and an error of the system is told.
-    fn counted<T>(&mut self, done: Result<T, OpenFault>) -> Result<T, Failed>
-        ensures { CountsFaults result self.old.faults self.new.faults }
-    {
-        match done {
-            Ok(done) => Ok(done),
-            Err(fault) => {
-                if let OpenFault::System(error) = fault {
-                    self.operator.tell(error);
-                }
-                self.faults = self.faults.saturating_add(1);
-                Err(Failed)
-            }
-        }
-    }
-}
-
-impl KeptName<DiskFile> for DiskName {
-    ghost tells = { ⊥ };
-
-    ghost seen = { λ _. [] };
-
-    ghost may_leave = { λ _ _. ⊤ };
-
-    ghost moment = { λ _. 0 };
-
-    ghost left_since = { λ _ _ _. ⊤ };
-
-    ghost faults = { λ f. f.faults };
-
-    ghost only_now = { λ none. absurd none };
-
-    fn make(&mut self) -> Result<DiskFile, Failed> {
-        let done = blank_beside(&self.rt, self.beside.as_str(), &self.operator);
-        self.counted(done)
-    }
-
-    fn give(&mut self, _: &DiskFile) -> Result<(), Failed> {
-        let done = place(&self.rt, self.beside.as_str(), self.operator.name());
-        self.counted(done)
-    }
-
-    fn sync(&mut self) -> Result<(), Failed> {
-        let done = sync_name(&self.rt, self.operator.name());
         self.counted(done)
     }
 }

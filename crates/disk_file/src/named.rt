@@ -1,6 +1,7 @@
 //! A file of the system under its name.
-ghost use Rattle.std.specs.Prelude.{[], ⊤};
+ghost use Rattle.std.specs.Prelude.{◌≡◌, [], ⊤};
 
+use crate::name::Given;
 use crate::{DiskFile, DiskName, OpenFault};
 use kept_file::{Failed, FileFault, KeptFile, KeptName, NamedFile};
 use std::alloc::Global;
@@ -11,17 +12,8 @@ pub struct NamedDiskFile {
     file: DiskFile,
     name: DiskName,
     is_renamed: bool,
-}
-
-/// Makes a file of these bytes beside the one that has a name. Where that fails, the place that
-/// they take on the disk is given back, as the disk may be full.
-fn made_beside(name: &mut DiskName, bytes: &[u8]) -> Result<DiskFile, Failed> {
-    let mut file = name.make()?;
-    if file.write_at(0, bytes).is_err() || file.sync().is_err() {
-        let _ = file.cut(0);
-        return Err(Failed);
-    }
-    Ok(file)
+    /// Whether it was told that the old file goes on, since the last one that took its place.
+    is_told: bool,
 }
 
 impl NamedDiskFile {
@@ -29,12 +21,34 @@ impl NamedDiskFile {
     /// with these bytes.
     pub fn open(rt: &HostRuntime, path: &str, first: &[u8]) -> Result<NamedDiskFile, OpenFault> {
         let file = DiskFile::open(rt, path, first)?;
-        let name = DiskName::new(rt, path)?;
+        let name = DiskName::new(rt, &file, path)?;
         Ok(NamedDiskFile {
             file,
             name,
             is_renamed: false,
+            is_told: false,
         })
+    }
+
+    /// This file has the name from now on.
+    fn go_on_as(&mut self, file: DiskFile)
+        ensures { self.new.file.faults ≡ self.old.file.faults }
+    {
+        self.file.go_on_as(file);
+        self.name.take_spares();
+        self.is_renamed = true;
+        self.is_told = false;
+    }
+
+    /// The old file goes on. Why is told once.
+    fn stay(&mut self, fault: OpenFault)
+        ensures { self.new.file ≡ self.old.file }
+    {
+        if !self.is_told {
+            self.name.tell_stays(fault);
+        }
+        self.is_told = true;
+        self.name.take_spares();
     }
 }
 
@@ -76,22 +90,32 @@ impl KeptFile for NamedDiskFile {
             return self.file.fail();
         }
         self.is_renamed = false;
+        if self.name.was_lost() {
+            return self.file.fail();
+        }
         self.file.sync()
     }
 }
 
 impl NamedFile for NamedDiskFile {
     fn replace(&mut self, bytes: &[u8]) -> Result<bool, Failed> {
-        let Ok(file) = made_beside(&mut self.name, bytes) else {
-            return Ok(false);
+        let file = match self.name.filled(bytes) {
+            Ok(file) => file,
+            Err(fault) => {
+                self.stay(fault);
+                return Ok(false);
+            }
         };
-        match self.name.give(&file) {
-            Ok(()) => {
-                self.file.go_on_as(file);
-                self.is_renamed = true;
+        match self.name.give_to(&file) {
+            Given::New => {
+                self.go_on_as(file);
                 Ok(true)
             }
-            Err(Failed) => {
+            Given::Old(error) => {
+                self.stay(OpenFault::System(error));
+                Ok(false)
+            }
+            Given::Lost => {
                 self.file.fail()?;
                 Ok(false)
             }

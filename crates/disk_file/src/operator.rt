@@ -1,6 +1,7 @@
 //! Who runs the program.
 use crate::OpenFault;
-use crate::aside::set_aside;
+use crate::aside::{MOST_NUMBERED, is_full, may_have_a_deed, set_aside};
+use crate::place::Loss;
 use libc::net::{POLLNVAL, POLLOUT, poll};
 use libc::types::pollfd;
 use std::alloc::AllocError;
@@ -67,13 +68,57 @@ impl Operator {
         self.write(format!(in self.rt.alloc(); "{name}: {error}\n"));
     }
 
-    /// Keeps bytes of the file beside it, and tells what they are, or why they can't be kept.
+    /// Tells why nothing could be put in the file's place.
+    pub(crate) fn tell_fault(&self, fault: OpenFault) {
+        let name = self.name();
+        self.write(format!(in self.rt.alloc(); "{name}: {fault}\n"));
+    }
+
+    /// Tells that the file was made.
+    pub(crate) fn tell_made(&self) {
+        let name = self.name();
+        self.write(format!(in self.rt.alloc(); "made a new journal {name}\n"));
+    }
+
+    /// Tells why an open file isn't the one any more that has its name.
+    pub(crate) fn tell_loss(&self, loss: Loss) {
+        let name = self.name();
+        self.write(format!(in self.rt.alloc(); "{name}: {loss}\n"));
+    }
+
+    /// Tells why no other file takes the place of this one.
+    pub(crate) fn tell_stays(&self, fault: OpenFault) {
+        let name = self.name();
+        let alloc = self.rt.alloc();
+        self.write(format!(in alloc;
+            "{name}: it goes on as it is, as no snapshot can take its place: {fault}\n"
+        ));
+    }
+
+    /// Tells where bytes of the file are.
+    fn tell_kept(&self, what: &str, is_free: bool) {
+        let name = self.name();
+        let alloc = self.rt.alloc();
+        self.write(format!(in alloc; "{name}: {what}; {name}.cut has them\n"));
+        if !is_free {
+            self.write(format!(in alloc;
+                "{name}.cut.1 to {name}.cut.{MOST_NUMBERED} stay; what {name}.cut had is gone\n"
+            ));
+        }
+    }
+
+    /// Keeps bytes of the file beside it, and tells what they are, or why they can't be kept. On a
+    /// full disk bytes without a whole deed are told and not kept.
     pub(crate) fn keep_for(&self, bytes: &[u8], what: &str) -> Result<(), OpenFault> {
         let name = self.name();
         let alloc = self.rt.alloc();
         match set_aside(&self.rt, name, bytes) {
-            Ok(()) => {
-                self.write(format!(in alloc; "{name}: {what}; {name}.cut has them\n"));
+            Ok(is_free) => {
+                self.tell_kept(what, is_free);
+                Ok(())
+            }
+            Err(fault) if is_full(&fault) && !may_have_a_deed(bytes) => {
+                self.write(format!(in alloc; "{name}: {what}; they are kept nowhere: {fault}\n"));
                 Ok(())
             }
             Err(fault) => {
