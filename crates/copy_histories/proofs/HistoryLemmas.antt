@@ -17,7 +17,8 @@ use Rattle.entity_model.specs.Opening.{opening, opening_base, opening_nodes, ope
 use Rattle.entity_model.specs.Sound.{IsSoundEntity}
 use Rattle.entity_model.proofs.SoundLemmas.{sound_opening}
 use Rattle.cse_machine.specs.History.{History}
-use Rattle.guard_laws.proofs.HistoryLemmas.{same_entity, sound_step}
+use Rattle.guard_laws.proofs.HistoryLemmas.{sound_step}
+use Rattle.cse_machine.proofs.SameLemmas.{same_entity}
 use Rattle.machine_laws.specs.Outbox.{Account, Accounts}
 use Rattle.machine_laws.proofs.OutboxLemmas.{accounted}
 use Rattle.copy_histories.specs.Histories.{CopiesFollowFromOpenings, CopiesFollowHistories, Stands, copies_in, stood_through}

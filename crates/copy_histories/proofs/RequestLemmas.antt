@@ -36,9 +36,9 @@ use Rattle.group_fanout.specs.Rights.{claimed_originator, has_right}
 use Rattle.cse_machine.specs.Answer.{address_effect, as_done, effect_of, first_places, has_answer, onward_effect, point_of, poll_effect, route_effect, spot_effect}
 use Rattle.cse_machine.specs.Step.{heard_members}
 use Rattle.cse_machine.proofs.PlaceLemmas.{claimed_valid}
-use Rattle.guard_laws.proofs.JudgedLemmas.{heard_facts}
+use Rattle.cse_machine.proofs.JudgedLemmas.{heard_facts}
+use Rattle.cse_machine.proofs.WayLemmas.{given_note, taken_answer}
 use Rattle.guard_laws.proofs.MemberLemmas.{IsSoundAt, MaySend, members_sound}
-use Rattle.guard_laws.proofs.WayLemmas.{given_note, taken_answer}
 use Rattle.machine_laws.specs.Outbox.{channel_at, channel_polled, member_items, request_items, spot_items}
 use Rattle.copy_histories.specs.Histories.{member_trees}
 use Rattle.copy_histories.proofs.KeptLemmas.{stays_still}

@@ -25,10 +25,11 @@ use Rattle.cse_machine.specs.declared.event.Outcome.TheVariants.{Done, Forward, 
 use Rattle.cse_machine.specs.declared.event.Outcome.TheVariants.{Starved, Ticked}
 use Rattle.cse_machine.specs.Answer.{effect_of}
 use Rattle.cse_machine.specs.Step.{IsCutShort, IsUnswept, Step, heard_members}
-use Rattle.guard_laws.proofs.CutLemmas.{Heard, a_fan, heard_by, no_fan, short_send}
-use Rattle.guard_laws.proofs.HistoryLemmas.{onward_leaves}
-use Rattle.guard_laws.proofs.MemberLemmas.{take_requests}
-use Rattle.guard_laws.proofs.WayLemmas.{member_addresses}
+use Rattle.guard_laws.proofs.CutLemmas.{short_send}
+use Rattle.cse_machine.proofs.CutLemmas.{Heard, a_fan, heard_by, no_fan}
+use Rattle.cse_machine.proofs.SameLemmas.{onward_leaves}
+use Rattle.cse_machine.proofs.MemberLemmas.{take_requests}
+use Rattle.cse_machine.proofs.WayLemmas.{member_addresses}
 use Rattle.machine_laws.specs.Outbox.{Account, AccountStep, aged, channel_polled, expired_account, expiry_items, expiry_notes, given, member_items, noted, request_items, requested_account, short_account}
 use Rattle.copy_histories.specs.Histories.{AreThese, StandStep, copies_in, member_trees, request_trees, stood_through}
 use Rattle.copy_histories.proofs.LeadingLemmas.{expiring_told}

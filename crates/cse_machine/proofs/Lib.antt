@@ -2,3 +2,10 @@ pub mod AddressLemmas
 pub mod PlaceLemmas
 pub mod RouteLemmas
 pub mod OutcomeLemmas
+pub mod JudgedLemmas
+pub mod WayLemmas
+pub mod KeptLemmas
+pub mod MemberLemmas
+pub mod CutLemmas
+pub mod CameLemmas
+pub mod SameLemmas

@@ -112,6 +112,10 @@ first_places e request = unless (has_form request) BadRequest ∷ originator_pla
 abbrev pub resource_at : List ResourceData → Spot → Option ResourceData
 resource_at nodes spot = option_and_then (λ n. at n nodes) (spot_resource spot)
 
+-- what the address of a request names here
+abbrev pub spot_asked : EntityData → RequestParts → Option Spot
+spot_asked e request = spot_named e.home request.to e.nodes
+
 -- the resource that an address names (TS-0001, 9.3.1)
 abbrev pub addressed : EntityData → List ℕ → Option ResourceData
 addressed e to = option_and_then (resource_at e.nodes) (spot_named e.home to e.nodes)

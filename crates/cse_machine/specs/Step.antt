@@ -1,5 +1,5 @@
 -- One event of a CSE (TS-0001, 10.1; TS-0004, 7.2).
-use Rattle.std.specs.Prelude.{◌≡◌, ◌⊎◌, ℕ, nat_lt, List, [], length, Bool, false, is_some}
+use Rattle.std.specs.Prelude.{◌≡◌, ◌⊎◌, ℕ, ◌≤◌, nat_lt, List, [], length, Bool, false, is_some}
 use Rattle.std.specs.Prelude.{IsTrue}
 use Rattle.std.specs.Option.{option_map_or}
 use Rattle.primitive_json.specs.declared.request.RequestParts.{RequestParts}
@@ -86,6 +86,16 @@ Step reading Tick before (Forward poa onward) after = ⊥
 Step reading Tick before (Item given) after = ⊥
 Step reading Tick before Ticked after = after ≡ swept reading before
 Step reading Tick before (Starved done) after = IsUnswept reading before done after
+
+-- ---- what stays
+
+-- Whatever happens, an entity keeps its home; its moment is that of the event, or all stays where
+-- memory ran out in the expiry; and its next number doesn't fall.
+pub record IsSameEntity (reading : ℕ) (before after : EntityData) : Type 0 where
+  pub home : after.home ≡ before.home
+  pub last : (after.last ≡ event_moment before.last reading)
+      ⊎ IsUnswept reading before 0 after
+  pub next : before.next ≤ after.next
 
 -- ---- what is taken
 

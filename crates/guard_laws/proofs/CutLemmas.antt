@@ -1,82 +1,12 @@
 -- Where memory runs out in a fan-out, so many of its members are done.
-use Rattle.guard_laws.proofs.Words.{◌≡◌, ℕ, ◌≤◌, List, [], ◌∷◌, take, length, Bool, true, false, Option, Some, None, refl, sym, ap, ◌∙◌, arith, option_map_or}
-use Rattle.guard_laws.proofs.Terms.{is_originator, Rsc, NoPrivilege, NotAllowed, RequestParts, ResourceData, at, Spot, Resource, Fan, Poll, EntityData, first_fault, unless, first_places, has_originator, IsCutShort, heard_members, after_members, fanned_requests, is_fanned, may_fan, member_requests, requests_to, rest_of, served_members, claimed_originator}
-use Rattle.guard_laws.proofs.Facts.{at_number, claimed_valid}
-use Rattle.std.proofs.Math.Seq.{take-nil}
-use Rattle.guard_laws.specs.Guard.{is_fan_point, spot_asked}
-use Rattle.guard_laws.proofs.JudgedLemmas.{heard_facts}
-use Rattle.guard_laws.proofs.MemberLemmas.{MaySend, members_kept, take_requests}
-use Rattle.guard_laws.proofs.WayLemmas.{member_addresses}
-
--- the requests are those of a fan-out that nothing refuses
-pub record IsHeardFan (e : EntityData) (request : RequestParts) (members : List RequestParts) : Type 0 where
-  pub group : ResourceData
-  pub place : ℕ
-  pub there : at group.number e.nodes ≡ Some group
-  pub spot : spot_asked e request ≡ Some (Fan group.number place)
-  pub right : may_fan e request group.number ≡ true
-  pub originator : is_originator (claimed_originator e.home request) ≡ true
-  pub are : members ≡ requests_to request (member_addresses e request place group)
-
--- a request has such members, or none
-pub data Heard (e : EntityData) (request : RequestParts) (members : List RequestParts) : Type 0 where
-  no_fan : members ≡ [] → Heard e request members
-  a_fan : IsHeardFan e request members → Heard e request members
-
-module _ (e : EntityData) (request : RequestParts) where
-  on_group : (place : ℕ) (g : ResourceData) (right does : Bool) → has_originator e.home request ≡ true → spot_asked e request ≡ Some (Fan g.number place) → at g.number e.nodes ≡ Some g → may_fan e request g.number ≡ right → Heard e request (option_map_or (λ (fault : Rsc). []) (first_fault (unless right NoPrivilege ∷ unless does NotAllowed ∷ [])) (member_requests request (rest_of e.home request.to place) g))
-  on_group place g false does by is there right = no_fan refl
-  on_group place g true false by is there right = no_fan refl
-  on_group place g true true by is there right = a_fan (record {
-    group = g;
-    place = place;
-    there = there;
-    spot = is;
-    right = right;
-    originator = claimed_valid e.home request by;
-    are = refl;
-  })
-
-  on_fan : (n place : ℕ) (found : Option ResourceData) → has_originator e.home request ≡ true → spot_asked e request ≡ Some (Fan n place) → at n e.nodes ≡ found → Heard e request (option_map_or (fanned_requests e request (rest_of e.home request.to place)) found [])
-  on_fan n place None by is found = no_fan refl
-  on_fan n place (Some g) by is found =
-      let number = at_number n e.nodes g found in
-      on_group place g (may_fan e request g.number) (is_fanned request.op) by
-      (is ∙ ap (λ (m : ℕ). Some (Fan m place)) (sym number)) (ap (λ (m : ℕ). at m e.nodes) number ∙ found) refl
-
-  on_spot : (spot : Option Spot) → has_originator e.home request ≡ true → spot_asked e request ≡ spot → Heard e request (served_members e request spot)
-  on_spot None by is = no_fan refl
-  on_spot (Some (Resource n)) by is = no_fan refl
-  on_spot (Some (Fan n place)) by is = on_fan n place (at n e.nodes) by is refl
-  on_spot (Some (Poll channel)) by is = no_fan refl
-
-  by_place : (fault : Option Rsc) → first_fault (first_places e request) ≡ fault → Heard e request (option_map_or (λ (f : Rsc). []) fault (served_members e request (spot_asked e request)))
-  by_place (Some fault) is = no_fan refl
-  by_place None is =
-      on_spot (spot_asked e request) (heard_facts e request is).originator refl
-
-  pub heard_by : Heard e request (heard_members e request)
-  heard_by = by_place (first_fault (first_places e request)) refl
-
--- ---- what is left
-
--- nothing was done; or so many members were
-pub data IsLeftShort (e : EntityData) (request : RequestParts) (done : ℕ) (after : EntityData) : Type 0 where
-  undone : done ≡ 0 → after ≡ e → IsLeftShort e request done after
-  some_done : (fan : IsHeardFan e request (heard_members e request)) → after ≡ after_members e (requests_to request (take done (member_addresses e request fan.place fan.group))) → IsLeftShort e request done after
-
-pub left_short : (e : EntityData) (request : RequestParts) (done : ℕ) (after : EntityData) → IsCutShort e request done after → IsLeftShort e request done after
-left_short e request done after short = by (heard_by e request)
-  where
-    by : Heard e request (heard_members e request) → IsLeftShort e request done after
-    by (no_fan none) =
-        undone (omega (arith, short.within, ap length none))
-        (short.left ∙ ap (λ (members : List RequestParts). after_members e (take done members)) none ∙ ap (after_members e) (take-nil done))
-    by (a_fan fan) =
-        some_done fan
-        (short.left
-        ∙ ap (λ (members : List RequestParts). after_members e (take done members)) fan.are
-        ∙ ap (after_members e) (take_requests done (member_addresses e request fan.place fan.group) request))
+use Rattle.guard_laws.proofs.Words.{◌≡◌, ℕ, take, true, false, sym, ap, ◌∙◌}
+use Rattle.cse_machine.specs.Answer.{spot_asked}
+use Rattle.cse_machine.proofs.MemberLemmas.{members_kept}
+use Rattle.cse_machine.proofs.WayLemmas.{member_addresses}
+use Rattle.cse_machine.proofs.CutLemmas.{IsHeardFan, IsLeftShort, left_short, some_done, undone}
+use Rattle.guard_laws.proofs.Terms.{RequestParts, EntityData, IsCutShort, heard_members}
+use Rattle.guard_laws.specs.Guard.{is_fan_point}
+use Rattle.guard_laws.proofs.MemberLemmas.{MaySend}
 
 -- the members may be sent to
 pub short_send : (e : EntityData) (request : RequestParts) → IsHeardFan e request (heard_members e request) → MaySend e.home request
@@ -89,11 +19,6 @@ fan_asked e request other fan = sym other ∙ ap is_fan_point fan.spot
 pub alone_undone : (e : EntityData) (request : RequestParts) (done : ℕ) (after : EntityData) → is_fan_point (spot_asked e request) ≡ false → IsLeftShort e request done after → done ≡ 0
 alone_undone e request done after other (undone none same) = none
 alone_undone e request done after other (some_done fan left) = (let no : false ≡ true = fan_asked e request other fan in cc)
-
--- where none is done, nothing has changed
-pub first_undone : (e : EntityData) (request : RequestParts) (after : EntityData) → IsLeftShort e request 0 after → after ≡ e
-first_undone e request after (undone none same) = same
-first_undone e request after (some_done fan left) = left
 
 -- its moment is the one before
 pub short_last : (e : EntityData) (request : RequestParts) (done : ℕ) (after : EntityData) → IsCutShort e request done after → after.last ≡ e.last

@@ -1,37 +1,17 @@
 -- Nothing is shown or changed but by a grant.
-use Rattle.guard_laws.proofs.Words.{◌≡◌, ℕ, List, true, false, Option, Some, None, option_map, inl, inr, refl, sym, ap, subst, ◌∙◌, arith, ⊤, option_and_then}
-use Rattle.guard_laws.proofs.Terms.{op_row, waits_for, is_originator, Rsc, Fine, Op, Retrieve, Notify, ReplyParts, RequestParts, ResourceData, at, grants, EntityData, Effect, refusal, refused, reply_to, IsSoundEntity, may_do, handed_on, Spot, Resource, Fan, Poll, told_effect_at, Done, Forward, EventEffect, addressed, as_done, effect_of, resource_at, is_fanned, member_effect, requests_to, sent_to, singles_of, change_effect, operation_effect, claimed_originator}
+use Rattle.guard_laws.proofs.Words.{◌≡◌, true, false, Option, Some, None, option_map, inl, inr, refl, sym, ap, subst, ◌∙◌, option_and_then}
+use Rattle.m2m_names.specs.StatusCodes.{is_success}
+use Rattle.cse_machine.specs.Answer.{spot_asked}
+use Rattle.cse_machine.proofs.MemberLemmas.{of_member}
+use Rattle.cse_machine.proofs.WayLemmas.{IsFanned, IsOperated, answers, fanned_by, fans, given_note, leaves, member_addresses, operates, polls, refuses, taken_answer, way_of}
+use Rattle.cse_machine.proofs.CameLemmas.{Came, answered_here, comes, left_by}
+use Rattle.guard_laws.proofs.Terms.{op_row, waits_for, is_originator, Rsc, Op, Retrieve, Notify, ReplyParts, RequestParts, ResourceData, at, grants, EntityData, refusal, refused, IsSoundEntity, may_do, handed_on, Spot, Resource, Fan, Poll, told_effect_at, Done, EventEffect, addressed, as_done, effect_of, resource_at, is_fanned, member_effect, requests_to, sent_to, singles_of, change_effect, operation_effect, claimed_originator}
 use Rattle.guard_laws.proofs.Facts.{true≢false, none-some, same_Some, sound_taken, same_reply, changing_at}
-use Rattle.guard_laws.specs.Guard.{is_success, IsGuardedAt, IsGuarded, spot_asked}
-use Rattle.guard_laws.proofs.ChangingLemmas.{IsKept, shows_none, still_kept}
+use Rattle.guard_laws.specs.Guard.{IsGuardedAt, IsGuarded}
+use Rattle.guard_laws.proofs.ChangingLemmas.{shows_none}
 use Rattle.guard_laws.proofs.RelayLemmas.{relay_nodes}
-use Rattle.guard_laws.proofs.MemberLemmas.{IsSoundAt, MaySend, members_guarded, members_kept, members_sound, members_still, of_member}
-use Rattle.guard_laws.proofs.OperatedLemmas.{operated_guarded, operated_kept, operated_sound, refused_guarded}
-use Rattle.guard_laws.proofs.WayLemmas.{GoesOn, IsFanned, IsOperated, IsPolled, IsTaken, answers, fanned_by, fans, given_note, leaves, member_addresses, operates, polls, refuses, taken_answer, way_of}
-
--- ---- what comes of a request
-
--- what comes of a request is an effect with a reply, of which this holds, or it goes on
-pub data Came (e : EntityData) (request : RequestParts) (P : Effect → Type 0) : Type 0 where
-  replied : (effect : Effect) → effect_of e request ≡ as_done effect → P effect → Came e request P
-  went_on : GoesOn e request (effect_of e request) → Came e request P
-
--- where it holds of each refusal, of what the operation on its target gives, of what a poll gives
--- that is given a note, of an answer that is taken, and of a fan-out
-pub comes : (e : EntityData) (request : RequestParts) (P : Effect → Type 0) → ((fault : Rsc) → is_success fault ≡ false → P (refused e request fault)) → ((way : IsOperated e request (effect_of e request)) → P (operation_effect request.op e request way.target)) → ((way : IsPolled e request (effect_of e request)) → P (given_note e request way.channel way.note)) → ((way : IsTaken e request (effect_of e request)) → P (taken_answer e request)) → ((way : IsFanned e request (effect_of e request)) → P (fanned_by e request way.place way.group)) → Came e request P
-comes e request P refusal operation poll answer fan = elim (way_of e request) [
-  | refuses way ↦ replied (refused e request way.0) way.2 (refusal way.0 way.1)
-  | operates way ↦ replied (operation_effect request.op e request way.target) way.is (operation way)
-  | polls way ↦ replied (given_note e request way.channel way.note) way.is (poll way)
-  | answers way ↦ replied (taken_answer e request) way.is (answer way)
-  | fans way ↦ replied (fanned_by e request way.place way.group) way.is (fan way)
-  | leaves way ↦ went_on way
-]
-
--- and so of the entity after it
-pub left_by : (e : EntityData) (request : RequestParts) (P : EntityData → Type 0) → P e → Came e request (λ x. P x.after) → P (effect_of e request).after
-left_by e request P holds (replied effect is left) = subst (λ (x : EventEffect). P x.after) (sym is) left
-left_by e request P holds (went_on way) = subst (λ (x : EventEffect). P x.after) (sym way.is) holds
+use Rattle.guard_laws.proofs.MemberLemmas.{IsSoundAt, MaySend, members_guarded, members_sound, members_still}
+use Rattle.guard_laws.proofs.OperatedLemmas.{operated_guarded, operated_sound, refused_guarded}
 
 -- a request that is fanned out may be sent to each member
 pub may_send : (e : EntityData) (request : RequestParts) → IsFanned e request (effect_of e request) → MaySend e.home request
@@ -99,17 +79,6 @@ sound_effect e request sound =
     (λ way. sound)
     (λ way. (members_sound e.home request (may_send e request way) (member_addresses e request way.place way.group) e (record { sound = sound; home_is = refl })).sound))
 
-pub kept : (e : EntityData) (request : RequestParts) → Came e request (IsKept e)
-kept e request =
-    comes e request (IsKept e)
-    (λ fault other. still_kept e (refusal request fault))
-    (λ way. operated_kept e request way.target way.there request.op)
-    (λ way. record { home = refl; last = refl; next = omega arith; unserved = λ none. absurd (true≢false none) })
-    (λ way. still_kept e (reply_to request Fine None))
-    (λ way.
-    let left = members_kept (member_addresses e request way.place way.group) e request in
-    record { home = left.home; last = left.last; next = left.next; unserved = λ none. absurd (true≢false none) })
-
 -- a Retrieve changes no resource
 member_read : (e : EntityData) (request : RequestParts) → request.op ≡ Retrieve → (member_effect e request).after.nodes ≡ e.nodes
 member_read e request op =
@@ -150,21 +119,6 @@ served_way : (e : EntityData) (request : RequestParts) (target : ResourceData) �
 served_way e request target named way =
     subst (Served e request) (same_Some way.target target (sym way.named ∙ named))
     (record { there = way.there; originator = way.originator; is = way.is })
-
-done_onward : (reply : ReplyParts) (poa : List ℕ) (onward : RequestParts) → Done reply ≡ Forward poa onward → ⊥
-done_onward reply poa onward same = cc
-
--- what goes on isn't answered here
-pub answered_here : (e : EntityData) (request : RequestParts) (reply : ReplyParts) → Done reply ≡ (effect_of e request).outcome → GoesOn e request (effect_of e request) → ⊥
-answered_here e request reply is way = done_onward reply way.poa _ (is ∙ ap (λ (x : EventEffect). x.outcome) way.is)
-
--- and it changes nothing
-pub onward_still : (e : EntityData) (request : RequestParts) (poa : List ℕ) (onward : RequestParts) → Forward poa onward ≡ (effect_of e request).outcome → (effect_of e request).after ≡ e
-onward_still e request poa onward is = by (comes e request (λ x. ⊤) (λ fault other. tt) (λ way. tt) (λ way. tt) (λ way. tt) (λ way. tt))
-  where
-    by : Came e request (λ x. ⊤) → (effect_of e request).after ≡ e
-    by (replied effect done holds) = absurd (done_onward effect.reply poa onward (sym (is ∙ ap (λ (x : EventEffect). x.outcome) done)))
-    by (went_on way) = ap (λ (x : EventEffect). x.after) way.is
 
 pub served_on : (e : EntityData) (request : RequestParts) (target : ResourceData) (reply : ReplyParts) → Done reply ≡ (effect_of e request).outcome → is_success reply.rsc ≡ true → addressed e request.to ≡ Some target → Served e request target
 served_on e request target reply is success named = elim (way_of e request) [

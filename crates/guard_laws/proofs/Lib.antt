@@ -2,8 +2,7 @@ pub mod Words
 pub mod Terms
 pub mod Facts
 pub mod OwnLemmas
-pub mod JudgedLemmas
-pub mod WayLemmas
+pub mod ReadingLemmas
 pub mod ChangingLemmas
 pub mod RelayLemmas
 pub mod OperatedLemmas

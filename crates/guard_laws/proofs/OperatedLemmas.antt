@@ -1,12 +1,13 @@
 -- What an operation on a resource gives is guarded, sound and of the same entity.
 use Rattle.guard_laws.proofs.Words.{◌≡◌, ℕ, List, Bool, true, false, cond, Some, inl, refl, sym, ap, subst, ◌∙◌}
+use Rattle.m2m_names.specs.StatusCodes.{is_success}
+use Rattle.guard_laws.proofs.ReadingLemmas.{Reading, found_read, reading, refused_read, shown_read}
 use Rattle.guard_laws.proofs.Terms.{is_originator, Rsc, Op, Create, Retrieve, Update, Delete, Notify, ReplyParts, RequestParts, ResourceData, at, grants, EntityData, reading_bit, refusal, refused, Effect, IsSoundEntity, is_discovery, may_do, discovered, retrieved, told_effect_at, addressed, change_effect, operation_effect, reading_reply, claimed_originator, has_right}
 use Rattle.guard_laws.proofs.Facts.{discovered_by_right, retrieved_by_right, told_stays_sound, changing_at}
-use Rattle.guard_laws.specs.Guard.{is_success, DoesShow, HasRight, IsGuardedAlone}
-use Rattle.guard_laws.proofs.ChangingLemmas.{IsToldByRight, tells_nothing, shows_none, IsKept, still_kept, change_guarded, create_kept, create_told, delete_kept, delete_told, update_kept, update_told}
+use Rattle.guard_laws.specs.Guard.{DoesShow, HasRight, IsGuardedAlone}
+use Rattle.guard_laws.proofs.ChangingLemmas.{IsToldByRight, tells_nothing, shows_none, change_guarded, create_told, delete_told, update_told}
 use Rattle.guard_laws.proofs.OwnLemmas.{apart_addresses}
-use Rattle.guard_laws.proofs.RelayLemmas.{relay_guarded, relay_kept, relay_sound}
-use Rattle.guard_laws.proofs.WayLemmas.{Reading, refused_read, reading, found_read, shown_read}
+use Rattle.guard_laws.proofs.RelayLemmas.{relay_guarded, relay_sound}
 
 -- ---- where nothing changes
 
@@ -83,10 +84,3 @@ module _ (e : EntityData) (request : RequestParts) (r : ResourceData) (there : a
   operated_sound Delete sound originator =
       as_changed Delete (λ x. IsSoundEntity x.after) (told_stays_sound Delete e (claimed_originator e.home request) request r.number sound originator)
   operated_sound Notify sound originator = relay_sound e request r there sound
-
-  pub operated_kept : (op : Op) → IsKept e (operation_effect op e request r)
-  operated_kept Create = as_changed Create (IsKept e) (create_kept e request r there)
-  operated_kept Retrieve = still_kept e (reading_reply e request r.number)
-  operated_kept Update = as_changed Update (IsKept e) (update_kept e request r there)
-  operated_kept Delete = as_changed Delete (IsKept e) (delete_kept e request r there)
-  operated_kept Notify = relay_kept e request r there

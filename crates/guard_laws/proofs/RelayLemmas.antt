@@ -1,11 +1,12 @@
 -- What comes of a Notify to a resource.
-use Rattle.guard_laws.proofs.Words.{◌≡◌, ℕ, List, true, false, Option, Some, None, inl, refl, sym, ap, subst, ◌∙◌, arith, option_map_or}
-use Rattle.guard_laws.proofs.Terms.{Rsc, Fine, Op, Notify, RequestParts, ResourceData, at, EntityData, Effect, refusal, refused, IsSoundEntity, fault_on, may_do, notify_effect, notify_on, relayed, addressed, claimed_originator, has_right}
-use Rattle.guard_laws.proofs.Facts.{true≢false, places_parts}
+use Rattle.guard_laws.proofs.Words.{◌≡◌, ℕ, List, true, Option, Some, None, inl, refl, ap, ◌∙◌, option_map_or}
+use Rattle.cse_machine.proofs.KeptLemmas.{relays}
+use Rattle.guard_laws.proofs.Terms.{Rsc, Fine, Op, Notify, RequestParts, ResourceData, at, EntityData, refused, IsSoundEntity, fault_on, may_do, notify_effect, relayed, addressed, claimed_originator, has_right}
+use Rattle.guard_laws.proofs.Facts.{places_parts}
 use Rattle.create_delete.proofs.RelayingLemmas.{sound_noted}
 use Rattle.group_fanout.specs.Operations.{relay_effect}
-use Rattle.guard_laws.specs.Guard.{is_success, DoesShow, HasRight, IsGuardedAlone}
-use Rattle.guard_laws.proofs.ChangingLemmas.{IsKept, IsToldByRight, refuses_on, shows_none, still_kept, tells_nothing}
+use Rattle.guard_laws.specs.Guard.{DoesShow, HasRight, IsGuardedAlone}
+use Rattle.guard_laws.proofs.ChangingLemmas.{IsToldByRight, shows_none, tells_nothing}
 
 module _ (e : EntityData) (request : RequestParts) (r : ResourceData) where
   abbrev o : List ℕ
@@ -20,29 +21,13 @@ module _ (e : EntityData) (request : RequestParts) (r : ResourceData) (there : a
   abbrev asks : List ℕ
   asks = claimed_originator e.home request
 
-  relays_by : (P : Effect → Type 0) → ((f : Rsc) → is_success f ≡ false → P (refused e request f)) → (fault_on Notify e asks request r ≡ None → P (notify_effect e asks request)) → (fault : Option Rsc) → fault_on Notify e asks request r ≡ fault → P (notify_on e asks request r)
-  relays_by P refuses does (Some f) is =
-      subst P (sym (ap (λ (x : Option Rsc). option_map_or (refused e request) x (notify_effect e asks request)) is)) (refuses f (refuses_on Notify e request r there f is))
-  relays_by P refuses does None is =
-      subst P (sym (ap (λ (x : Option Rsc). option_map_or (refused e request) x (notify_effect e asks request)) is)) (does is)
-
-  -- what holds of a refusal, and of what is handed on, holds of what comes of it
-  pub relays : (P : Effect → Type 0) → ((f : Rsc) → is_success f ≡ false → P (refused e request f)) → (fault_on Notify e (claimed_originator e.home request) request r ≡ None → P (notify_effect e (claimed_originator e.home request) request)) → P (relay_effect e request r)
-  unfolding relay_effect
-  relays P refuses does = relays_by P refuses does (fault_on Notify e asks request r) refl
-
-  pub relay_kept : IsKept e (relay_effect e request r)
-  relay_kept =
-      relays (IsKept e) (λ f other. still_kept e (refusal request f))
-      (λ none. record { home = refl; last = refl; next = omega arith; unserved = λ other. absurd (true≢false other) })
-
   -- it changes no resource
   pub relay_nodes : (relay_effect e request r).after.nodes ≡ e.nodes
-  relay_nodes = relays (λ x. x.after.nodes ≡ e.nodes) (λ f other. refl) (λ none. refl)
+  relay_nodes = relays e request r there (λ x. x.after.nodes ≡ e.nodes) (λ f other. refl) (λ none. refl)
 
   pub relay_sound : IsSoundEntity e → IsSoundEntity (relay_effect e request r).after
   relay_sound sound =
-      relays (λ x. IsSoundEntity x.after) (λ f other. sound) (λ none. sound_noted (relayed e asks request) e sound)
+      relays e request r there (λ x. IsSoundEntity x.after) (λ f other. sound) (λ none. sound_noted (relayed e asks request) e sound)
 
   -- and is done by right alone
   relay_right : request.op ≡ Notify → fault_on Notify e asks request r ≡ None → has_right e request r.number ≡ true
@@ -51,13 +36,13 @@ module _ (e : EntityData) (request : RequestParts) (r : ResourceData) (there : a
 
   relay_shown : addressed e request.to ≡ Some r → request.op ≡ Notify → DoesShow (relay_effect e request r).reply → HasRight e request
   relay_shown named op =
-      relays (λ x. DoesShow x.reply → HasRight e request)
+      relays e request r there (λ x. DoesShow x.reply → HasRight e request)
       (λ f other shows. absurd (shows_none request f other shows))
       (λ none shows. record { target = r; named = named; right = relay_right op none })
 
   relay_told : IsToldByRight e request (relay_effect e request r).reply
   relay_told =
-      relays (λ x. IsToldByRight e request x.reply) (λ f other. tells_nothing e request f) (λ none. tells_nothing e request Fine)
+      relays e request r there (λ x. IsToldByRight e request x.reply) (λ f other. tells_nothing e request f) (λ none. tells_nothing e request Fine)
 
   pub relay_guarded : addressed e request.to ≡ Some r → request.op ≡ Notify → IsGuardedAlone e request (relay_effect e request r).reply (relay_effect e request r).after
   relay_guarded named op = record {

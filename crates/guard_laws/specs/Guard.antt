@@ -1,8 +1,8 @@
 -- What a request may show, and what it may change.
-use Rattle.std.specs.Prelude.{◌≡◌, ◌≢◌, ◌⊎◌, ℕ, ◌≤◌, Bool, true, false, List, [], ◌∷◌, ◌++◌}
+use Rattle.std.specs.Prelude.{◌≡◌, ◌≢◌, ◌⊎◌, ℕ, Bool, true, false, List, [], ◌∷◌, ◌++◌}
 use Rattle.std.specs.Prelude.{Option, Some, None, option_map, take, IsTrue}
 use Rattle.m2m_names.specs.Operations.{op_row}
-pub use Rattle.m2m_names.specs.StatusCodes.{is_success}
+use Rattle.m2m_names.specs.StatusCodes.{is_success}
 use Rattle.m2m_names.specs.declared.codes.Rsc.TheVariants.{Ok as Fine}
 use Rattle.m2m_names.specs.declared.operations.Op.TheVariants.{Notify, Retrieve}
 use Rattle.primitive_json.specs.declared.reply.ReplyParts.{ReplyParts}
@@ -11,10 +11,9 @@ use Rattle.resource_model.specs.Resource.{ResourceData}
 use Rattle.turn_desk.specs.Entries.{entry_of}
 use Rattle.tree_model.specs.Tree.{at}
 use Rattle.policy_eval.specs.Rights.{fan_grants, grants}
-use Rattle.addressing.specs.Laws.{spot_named}
 use Rattle.addressing.specs.declared.spot.Spot.{Spot}
 use Rattle.addressing.specs.declared.spot.Spot.TheVariants.{Resource, Fan, Poll}
-use Rattle.entity_model.specs.Entity.{EntityData, event_moment, swept}
+use Rattle.entity_model.specs.Entity.{EntityData, swept}
 use Rattle.entity_model.specs.Places.{reply_to}
 use Rattle.entity_model.specs.Sound.{IsSoundEntity}
 use Rattle.retrieve_discover.specs.Polling.{first_waiting, handed_on}
@@ -25,11 +24,11 @@ use Rattle.cse_machine.specs.declared.event.Event.{Event}
 use Rattle.cse_machine.specs.declared.event.Event.TheVariants.{Ask}
 use Rattle.cse_machine.specs.declared.event.Outcome.{Outcome}
 use Rattle.cse_machine.specs.declared.event.Outcome.TheVariants.{Done, Forward, Starved}
-use Rattle.cse_machine.specs.Answer.{addressed}
+use Rattle.cse_machine.specs.Answer.{addressed, spot_asked}
 use Rattle.group_fanout.specs.Fan.{Single, gathered, member_requests, rest_of, singles_of}
 use Rattle.cse_machine.specs.History.{History, HistoryLeaves}
 use Rattle.group_fanout.specs.Rights.{claimed_originator, has_right}
-use Rattle.cse_machine.specs.Step.{IsUnswept, Step}
+use Rattle.cse_machine.specs.Step.{IsUnswept, Step, IsSameEntity}
 
 -- ---- what is shown
 
@@ -125,10 +124,6 @@ IsGuardedAt (Some (Fan group place)) before request reply after =
 IsGuardedAt (Some (Poll channel)) before request reply after =
     IsGuardedPoll channel before request reply after
 
--- what the address of a request names here
-abbrev pub spot_asked : EntityData → RequestParts → Option Spot
-spot_asked e request = spot_named e.home request.to e.nodes
-
 -- Nothing is shown or changed but by a grant to the originator, in the entity before the request.
 abbrev pub IsGuarded : EntityData → RequestParts → ReplyParts → EntityData → Type 0
 IsGuarded before request reply after =
@@ -215,14 +210,7 @@ NotifiesChangeNoResource =
     → request.op ≡ Notify → Step reading (Ask request) before (Done reply) after
     → after.nodes ≡ (swept reading before).nodes
 
--- Whatever happens, an entity keeps its home; its moment is that of the event, or all stays where
--- memory ran out in the expiry; and its next number doesn't fall.
-pub record IsSameEntity (reading : ℕ) (before after : EntityData) : Type 0 where
-  pub home : after.home ≡ before.home
-  pub last : (after.last ≡ event_moment before.last reading)
-      ⊎ IsUnswept reading before 0 after
-  pub next : before.next ≤ after.next
-
+-- So every step leaves the same entity.
 abbrev pub StepsKeepTheEntity : Type 0
 StepsKeepTheEntity =
     (reading : ℕ) (event : Event) (outcome : Outcome) (before after : EntityData)

@@ -1,3 +1,2 @@
 pub mod Guard
-pub mod Heard
 pub mod Legal

@@ -26,10 +26,10 @@ use Rattle.cse_machine.specs.declared.event.Outcome.TheVariants.{Done, Forward, 
 use Rattle.group_fanout.specs.Fan.{after_members, member_effect, requests_to, sent_to}
 use Rattle.group_fanout.specs.Operations.{operation_effect}
 use Rattle.retrieve_discover.specs.Polling.{first_waiting, without_waiting}
-use Rattle.guard_laws.proofs.GuardLemmas.{Came, comes}
-use Rattle.guard_laws.proofs.HistoryLemmas.{done_holds, done_keeps, onward_leaves, starved_alone}
-use Rattle.guard_laws.proofs.MemberLemmas.{of_member}
-use Rattle.guard_laws.proofs.WayLemmas.{member_addresses}
+use Rattle.cse_machine.proofs.CameLemmas.{Came, comes}
+use Rattle.cse_machine.proofs.SameLemmas.{done_holds, done_keeps, onward_leaves, starved_alone}
+use Rattle.cse_machine.proofs.MemberLemmas.{of_member}
+use Rattle.cse_machine.proofs.WayLemmas.{member_addresses}
 use Rattle.cse_machine.specs.Step.{has_fewer_items}
 use Rattle.journaled_entity.specs.Changes.{is_cut_short, may_change, reads_alone}
 

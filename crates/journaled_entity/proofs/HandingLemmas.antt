@@ -9,7 +9,7 @@ use Rattle.cse_machine.specs.declared.event.Event.TheVariants.{Ask, Take, Tick}
 use Rattle.cse_machine.specs.declared.event.Outcome.{Outcome}
 use Rattle.cse_machine.specs.declared.event.Outcome.TheVariants.{Done, Forward, Item, Ticked, Starved}
 use Rattle.group_fanout.proofs.FanLemmas.{none_cut}
-use Rattle.guard_laws.proofs.HistoryLemmas.{onward_leaves}
+use Rattle.cse_machine.proofs.SameLemmas.{onward_leaves}
 use Rattle.journal_events.specs.Steps.{KeptEntityStep, Looks, OnlyExpires, StepsAsMachine, TakesSent}
 use Rattle.journal_events.specs.Came.{machine_outcome}
 use Rattle.journal_events.specs.declared.event.KeptEvent.{KeptEvent}

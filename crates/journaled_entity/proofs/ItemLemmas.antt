@@ -29,11 +29,11 @@ use Rattle.cse_machine.specs.declared.event.Event.{Event}
 use Rattle.cse_machine.specs.declared.event.Event.TheVariants.{Ask, Take, Tick}
 use Rattle.cse_machine.specs.declared.event.Outcome.{Outcome}
 use Rattle.cse_machine.specs.declared.event.Outcome.TheVariants.{Done, Forward, Item as Given, Ticked, Starved}
-use Rattle.guard_laws.proofs.CutLemmas.{IsLeftShort, left_short, some_done, undone}
-use Rattle.guard_laws.proofs.GuardLemmas.{Came, comes}
-use Rattle.guard_laws.proofs.HistoryLemmas.{done_holds, onward_leaves}
-use Rattle.guard_laws.proofs.MemberLemmas.{of_member}
-use Rattle.guard_laws.proofs.WayLemmas.{IsPolled, given_note, member_addresses}
+use Rattle.cse_machine.proofs.CutLemmas.{IsLeftShort, left_short, some_done, undone}
+use Rattle.cse_machine.proofs.CameLemmas.{Came, comes}
+use Rattle.cse_machine.proofs.SameLemmas.{done_holds, onward_leaves}
+use Rattle.cse_machine.proofs.MemberLemmas.{of_member}
+use Rattle.cse_machine.proofs.WayLemmas.{IsPolled, given_note, member_addresses}
 use Rattle.journal_events.specs.Steps.{KeptEntityStep}
 use Rattle.journal_events.specs.declared.event.KeptEvent.{KeptEvent}
 use Rattle.journal_events.specs.declared.event.KeptEvent.TheVariants as events

@@ -13,7 +13,7 @@ use Rattle.cse_machine.specs.declared.event.Event.{Event}
 use Rattle.cse_machine.specs.declared.event.Event.TheVariants as events
 use Rattle.cse_machine.specs.declared.event.Outcome.{Outcome}
 use Rattle.cse_machine.specs.declared.event.Outcome.TheVariants.{Done, Forward, Item, Ticked, Starved}
-use Rattle.guard_laws.proofs.HistoryLemmas.{same_entity}
+use Rattle.cse_machine.proofs.SameLemmas.{same_entity}
 use Rattle.journal_events.specs.Steps.{OnlyExpires}
 use Rattle.journal_lines.specs.Lines.{IsReadBack, deed_at, lines_of, moment_bound}
 use Rattle.journal_lines.specs.declared.deed.Deed.{Deed}

@@ -13,8 +13,8 @@ use Rattle.kept_object.specs.Steps.{KeptStep, OnTurn}
 use Rattle.notify_outbox.specs.Items.{keeping_time, still_waits}
 use Rattle.notify_outbox.specs.declared.item.Item.{Item}
 use Rattle.entity_model.specs.Entity.{EntityData}
-use Rattle.guard_laws.specs.Guard.{IsSameEntity}
-use Rattle.guard_laws.proofs.HistoryLemmas.{same_entity}
+use Rattle.cse_machine.specs.Step.{IsSameEntity}
+use Rattle.cse_machine.proofs.SameLemmas.{same_entity}
 use Rattle.journal_events.specs.Machine.{machine_event}
 use Rattle.journal_events.specs.Steps.{KeptEntityStep}
 use Rattle.journal_events.specs.declared.event.KeptEvent.{KeptEvent}

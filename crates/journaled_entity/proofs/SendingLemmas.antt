@@ -9,7 +9,7 @@ use Rattle.cse_machine.specs.Step.{Step}
 use Rattle.cse_machine.specs.declared.event.Event.TheVariants.{Take, Tick}
 use Rattle.cse_machine.specs.declared.event.Outcome.{Outcome}
 use Rattle.cse_machine.specs.declared.event.Outcome.TheVariants.{Done, Forward, Item, Ticked, Starved}
-use Rattle.guard_laws.proofs.HistoryLemmas.{same_entity}
+use Rattle.cse_machine.proofs.SameLemmas.{same_entity}
 use Rattle.journal_events.specs.Steps.{KeptEntityStep, Looks, OnlyExpires, TakesSent, is_next, next_item, without_sent}
 use Rattle.journal_events.specs.declared.event.KeptEvent.{KeptEvent}
 use Rattle.journal_events.specs.declared.event.KeptEvent.TheVariants as events

@@ -32,8 +32,6 @@ use Rattle.later_replies.proofs.HeardLemmas.{heard_asked}
 use Rattle.later_replies.specs.Effects.{LaterEffect, is_status}
 use Rattle.later_replies.specs.Entries.{LaterEntryData, LaterRequestsData, accepted_entry, numbered, without}
 use Rattle.later_replies.specs.Step.{IsAnsweredBy, asked_effect, is_heard_outcome}
-use Rattle.later_laws.proofs.AnswerLemmas.{comes_holds, comes_to}
-use Rattle.later_laws.specs.Answered.{IsOwnAsked}
 use Rattle.later_opening.specs.Making.{later_of}
 use Rattle.std.proofs.Math.Seq.{get_or-append_seam}
 use Rattle.journaled_later.proofs.RecordLemmas.{accepted_recorded, gone_recorded, inner_recorded, records_none, records_then}
@@ -41,6 +39,8 @@ use Rattle.journaled_later.proofs.RunLemmas.{of_step}
 use Rattle.journaled_later.specs.Keeping.{KeepsLater}
 use Rattle.journaled_later.specs.Recorded.{AppendsAcceptance, AppendsAccepted, AppendsGone, HasOneMore, IsWrittenOrBack, RecordsLater, SaysAsked}
 use Rattle.journaled_later.specs.Steps.{IsTakenKept, request_of}
+use Rattle.later_replies.proofs.AnswerLemmas.{comes_holds, comes_to}
+use Rattle.later_replies.specs.Answered.{IsOwnAsked}
 
 -- ---- finding
 

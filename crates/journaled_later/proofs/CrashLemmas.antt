@@ -17,7 +17,6 @@ use Rattle.resource_model.specs.Home.{HomeData}
 use Rattle.journal_events.specs.declared.event.KeptOutcome.{KeptOutcome}
 use Rattle.later_replies.specs.Effects.{most_entries}
 use Rattle.later_replies.specs.Entries.{LaterData, LaterEntryData, LaterRequestsData, due_of}
-use Rattle.later_laws.specs.Sound.{IsKeptAsRun, IsSoundLater, Rises, StandsAt, WaitsSince, last_from, numbers_of}
 use Rattle.later_opening.proofs.NumberLemmas.{made_numbered}
 use Rattle.later_opening.proofs.ReadingLemmas.{later_journal_opens}
 use Rattle.later_opening.specs.Numbers.{WereAcceptedBy}
@@ -26,6 +25,7 @@ use Rattle.journaled_later.specs.Crashes.{ReopensLaterAsAFront, ReopensWhatWasAc
 use Rattle.journaled_later.specs.Keeping.{IsAtEarlier, KeepsLater}
 use Rattle.journaled_later.specs.Machine.{LaterTurned}
 use Rattle.journaled_later.specs.Steps.{KeptLaterStep}
+use Rattle.later_replies.specs.Sound.{IsKeptAsRun, IsSoundLater, Rises, StandsAt, WaitsSince, last_from, numbers_of}
 
 -- what is opened is what the text makes that keeps the CSE
 opens_kept : (kept : LaterData) (text bytes : List ℕ) → KeepsLater kept text → KeepsText text bytes

@@ -2,7 +2,6 @@ pub mod AnswerLemmas
 pub mod CrashLemmas
 pub mod HandedLemmas
 pub mod MachineLemmas
-pub mod OnceLemmas
 pub mod OpenLemmas
 pub mod RecordLemmas
 pub mod RunLemmas

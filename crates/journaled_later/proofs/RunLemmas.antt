@@ -6,7 +6,7 @@ use Rattle.std.specs.List.{list_all}
 use Rattle.std.specs.Prelude.{IfSome, Option, Some, None}
 use Rattle.primitive_json.specs.declared.reply.ReplyParts.{ReplyParts}
 use Rattle.primitive_json.specs.declared.request.RequestParts.{RequestParts}
-use Rattle.guard_laws.proofs.HistoryLemmas.{same_entity}
+use Rattle.cse_machine.proofs.SameLemmas.{same_entity}
 use Rattle.journal_events.proofs.MachineLemmas.{one_of_machine}
 use Rattle.journal_events.specs.Machine.{machine_event}
 use Rattle.journal_events.specs.Steps.{KeptEntityStep}

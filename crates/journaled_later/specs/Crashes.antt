@@ -8,7 +8,6 @@ use Rattle.kept_object.specs.State.{KeptData}
 use Rattle.kept_object.specs.Steps.{KeptStep}
 use Rattle.entity_model.specs.Sound.{IsSoundEntity}
 use Rattle.later_replies.specs.Entries.{LaterData}
-use Rattle.later_laws.specs.Sound.{IsSoundLater}
 use Rattle.journal_events.specs.declared.event.KeptOutcome.{KeptOutcome}
 use Rattle.journal_opening.specs.Opening.{IsOfMachine}
 use Rattle.journal_opening.specs.declared.fault.OpeningFault.{OpeningFault}
@@ -16,6 +15,7 @@ use Rattle.later_opening.specs.Opening.{IsRefusedLater, OpensLaterAs}
 use Rattle.journaled_later.specs.Keeping.{IsAtEarlier, KeepsLater}
 use Rattle.journaled_later.specs.Machine.{LaterTurned}
 use Rattle.journaled_later.specs.Steps.{KeptLaterStep}
+use Rattle.later_replies.specs.Sound.{IsSoundLater}
 
 -- The bytes of a file open as the CSE that the first of these turns made, but for its moment, which
 -- may be an earlier one; and they aren't refused. So each request that was accepted by then is kept

@@ -1,7 +1,6 @@
 pub mod Crashes
 pub mod Keeping
 pub mod Machine
-pub mod Once
 pub mod Opened
 pub mod Recorded
 pub mod Steps

@@ -1,7 +1,6 @@
 //! The laws of a CSE that answers later and is kept.
 ghost use Rattle.journaled_later.specs.Crashes.{ReopensWhatWasAccepted};
 ghost use Rattle.journaled_later.specs.Machine.{EachIsOneOfLater, TurnsAreHistories};
-ghost use Rattle.journaled_later.specs.Once.{AcceptedAreDoneOnce, StaysUntilItGoes};
 
 use kept_file::KeptFile;
 
@@ -20,11 +19,4 @@ pub fn turns_are_histories<F: KeptFile>()
 /// the crash: so is each acceptance that was answered.
 pub fn what_was_accepted_is_opened_again<F: KeptFile>()
     ensures { ReopensWhatWasAccepted F.tells F.seen F.may_leave F.moment F.left_since }
-{}
-
-/// An accepted request is kept until it is due or its originator deletes it. It is run once, by the
-/// events before a crash or by those behind it.
-pub fn accepted_requests_are_done_once()
-    ensures stays { StaysUntilItGoes }
-    ensures once { AcceptedAreDoneOnce }
 {}

@@ -12,9 +12,9 @@
 //! wouldn't be read back, or a run that was cut short, gives the journal up.
 //!
 //! `open_later` opens such a CSE at its journal, as an object that is kept in it; a file that is
-//! refused is given back. The laws say what a crash leaves (specs/Crashes, specs/Once): each request
-//! whose acceptance was answered is there, waiting or with its result, unless it was due or deleted
-//! by its originator; and it is run once.
+//! refused is given back. The laws say what a crash leaves (specs/Crashes): each request whose
+//! acceptance was answered is there, waiting or with its result, unless it was due or deleted by its
+//! originator. That it is run once is a law of later_laws.
 //!
 //! ```text
 //! let object = open_later(alloc, home, IndexTree::new(alloc), file)?; // or why not
@@ -33,8 +33,7 @@ mod running;
 
 pub use journaled_entity::Unopened;
 pub use laws::{
-    accepted_requests_are_done_once, each_event_is_one_of_later, turns_are_histories,
-    what_was_accepted_is_opened_again,
+    each_event_is_one_of_later, turns_are_histories, what_was_accepted_is_opened_again,
 };
 pub use opening::open_later;
 pub use recorder::JournaledLater;

@@ -18,11 +18,11 @@ use Rattle.later_replies.specs.Effects.{is_own, own_effect}
 use Rattle.later_replies.specs.Entries.{LaterData, LaterEntryData, LaterRequestsData, accepted_entry, still_standing, still_stands, without}
 use Rattle.accepted_requests.specs.Form.{uri_content}
 use Rattle.later_replies.specs.Runs.{is_to_run}
-use Rattle.later_laws.specs.Answered.{ComesTo, IsDeletedByOwn, IsOwnAsked, IsTakenUp, NamesAccepted, ShowsOwn, TellsNumber}
 use Rattle.later_laws.specs.Laws.{IsLeftAs}
 use Rattle.later_laws.specs.Turns.{AreLeft, IsTurn, Ran, Turn, as_ran}
-use Rattle.later_laws.proofs.AnswerLemmas.{comes_holds}
 use Rattle.later_laws.proofs.TurnLemmas.{turn_comes}
+use Rattle.later_replies.specs.Answered.{ComesTo, IsDeletedByOwn, IsOwnAsked, IsTakenUp, NamesAccepted, ShowsOwn, TellsNumber}
+use Rattle.later_replies.proofs.AnswerLemmas.{comes_holds}
 
 -- ---- elements
 

@@ -1,4 +1,4 @@
-pub mod AnswerLemmas
+pub mod DoneOnceLemmas
 pub mod GoingLemmas
 pub mod HeardLemmas
 pub mod OnceLemmas

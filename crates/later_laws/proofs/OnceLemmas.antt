@@ -11,12 +11,12 @@ use Rattle.cse_machine.specs.History.{History, HistoryLeaves}
 use Rattle.cse_machine.specs.Step.{Step}
 use Rattle.cse_machine.specs.declared.event.Event.{Event}
 use Rattle.cse_machine.specs.declared.event.Outcome.{Outcome}
-use Rattle.guard_laws.proofs.HistoryLemmas.{same_entity}
+use Rattle.cse_machine.proofs.SameLemmas.{same_entity}
+use Rattle.later_replies.specs.Answered.{IsDeletedByOwn}
+use Rattle.later_replies.specs.Sound.{IsSoundLater, Rises, WaitsSince, last_from, numbers_of}
 use Rattle.later_replies.specs.Entries.{LaterData, LaterEntryData, does_wait, due_of, still_standing, still_stands}
 use Rattle.later_replies.specs.Runs.{is_to_run, runs_all}
-use Rattle.later_laws.specs.Answered.{IsDeletedByOwn}
 use Rattle.later_laws.specs.Laws.{ComesToRun, all_run_numbers, run_numbers, times}
-use Rattle.later_laws.specs.Sound.{IsSoundLater, Rises, WaitsSince, last_from, numbers_of}
 use Rattle.later_laws.specs.Turns.{HasTurns, IsTurn, Ran, Turn, all_ran, inner_history, turn_history}
 use Rattle.later_laws.proofs.GoingLemmas.{contains_filtered, contains_mapped, contains_none, contains_one_of, not_run_stays, stands_or_deleted}
 use Rattle.later_laws.proofs.OrderLemmas.{rises_append}

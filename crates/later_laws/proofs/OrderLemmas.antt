@@ -7,8 +7,8 @@ use Rattle.later_replies.specs.Entries.{LaterEntryData, does_wait}
 use Rattle.later_replies.specs.Runs.{is_to_run, runs_all, with_outcome}
 use Rattle.cse_machine.specs.declared.event.Event.{Event}
 use Rattle.cse_machine.specs.declared.event.Outcome.{Outcome}
-use Rattle.later_laws.specs.Sound.{Rises, WaitsSince, last_from, numbers_of}
 use Rattle.later_laws.specs.Turns.{AreLeft, Ran, as_ran}
+use Rattle.later_replies.specs.Sound.{Rises, WaitsSince, last_from, numbers_of}
 
 -- ---- each of a list
 

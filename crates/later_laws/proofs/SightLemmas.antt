@@ -18,7 +18,10 @@ use Rattle.cse_machine.specs.declared.event.Event.{Event}
 use Rattle.cse_machine.specs.declared.event.Event.TheVariants.{Ask, Take, Tick}
 use Rattle.cse_machine.specs.declared.event.Outcome.{Outcome}
 use Rattle.cse_machine.specs.declared.event.Outcome.TheVariants.{Done, Forward, Item, Ticked, Starved}
-use Rattle.guard_laws.proofs.HistoryLemmas.{same_entity, sound_step}
+use Rattle.guard_laws.proofs.HistoryLemmas.{sound_step}
+use Rattle.cse_machine.proofs.SameLemmas.{same_entity}
+use Rattle.later_replies.specs.Sound.{IsKeptAsRun, IsSoundLater}
+use Rattle.later_replies.proofs.AnswerLemmas.{comes_holds}
 use Rattle.equal_sights.specs.Sight.{sight}
 use Rattle.machine_laws.specs.Sight.{IsRequestBy, is_calm, is_poll, is_polling}
 use Rattle.machine_laws.proofs.AlikeLemmas.{none_polls, steps_alike, steps_stay}
@@ -28,9 +31,7 @@ use Rattle.later_replies.specs.Entries.{LaterData}
 use Rattle.later_replies.specs.Runs.{is_to_run}
 use Rattle.later_replies.specs.Step.{IsAnsweredBy, asked_effect}
 use Rattle.later_laws.specs.Sights.{EqualSightsAnswerAlikeLater, EqualSightsStayAlikeLater, HasMemory, IsCalmBy, IsCalmEventBy, LaterSight, RunsItsOwn, SeenEntry, WaitsCalm, WaitsForItself, later_sight}
-use Rattle.later_laws.specs.Sound.{IsKeptAsRun, IsSoundLater}
 use Rattle.later_laws.specs.Turns.{AreLeft, IsTurn, Ran, Turn, run_history, turn_history}
-use Rattle.later_laws.proofs.AnswerLemmas.{comes_holds}
 use Rattle.later_laws.proofs.OrderLemmas.{each_filter, each_left, each_snoc}
 use Rattle.later_laws.proofs.SeenLemmas.{ComeAlike, PickedOwn, effects_alike, left_alike, none_is_some, picked_alike, same_head, same_tail, see, standing_seen}
 use Rattle.later_laws.proofs.StaysLemmas.{turn_sound}

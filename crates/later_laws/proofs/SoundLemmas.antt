@@ -14,15 +14,15 @@ use Rattle.cse_machine.specs.declared.event.Event.{Event}
 use Rattle.cse_machine.specs.declared.event.Event.TheVariants.{Ask}
 use Rattle.cse_machine.specs.declared.event.Outcome.{Outcome}
 use Rattle.cse_machine.specs.declared.event.Outcome.TheVariants.{Done}
-use Rattle.guard_laws.proofs.HistoryLemmas.{done_keeps, same_entity}
+use Rattle.cse_machine.proofs.SameLemmas.{done_keeps, same_entity}
+use Rattle.later_replies.specs.Answered.{IsTakenUp}
+use Rattle.later_replies.specs.Sound.{Rises, WaitsSince, last_from, numbers_of}
+use Rattle.later_replies.proofs.AnswerLemmas.{comes_holds}
 use Rattle.later_replies.specs.Effects.{with_accepted}
 use Rattle.later_replies.specs.Entries.{LaterData, LaterEntryData, LaterRequestsData, accepted_entry, does_wait, still_standing, still_stands}
 use Rattle.later_replies.specs.Runs.{is_to_run}
-use Rattle.later_laws.specs.Answered.{IsTakenUp}
 use Rattle.later_laws.specs.Laws.{all_run_numbers, run_numbers}
-use Rattle.later_laws.specs.Sound.{Rises, WaitsSince, last_from, numbers_of}
 use Rattle.later_laws.specs.Turns.{HasTurns, IsTurn, Ran, Turn, run_history}
-use Rattle.later_laws.proofs.AnswerLemmas.{comes_holds}
 use Rattle.later_laws.proofs.OrderLemmas.{AgreesToRun, LeavesAll, all_or_none, each_filter, each_snoc, each_weaker, last_append, last_filter, last_more, left_numbers, none_run, none_waits, rises_append, rises_filter, rises_kept, rises_more}
 use Rattle.later_laws.proofs.TurnLemmas.{turn_comes}
 

@@ -16,14 +16,14 @@ use Rattle.cse_machine.specs.History.{History}
 use Rattle.cse_machine.specs.declared.event.Event.{Event}
 use Rattle.cse_machine.specs.declared.event.Outcome.{Outcome}
 use Rattle.guard_laws.proofs.HistoryLemmas.{sound_after}
+use Rattle.later_replies.specs.Sound.{IsKeptAsRun, IsSoundLater, StandsAt, last_from}
+use Rattle.later_replies.proofs.AnswerLemmas.{comes_holds}
 use Rattle.later_replies.specs.Effects.{is_full, most_entries, with_accepted}
 use Rattle.later_replies.specs.Entries.{LaterData, LaterEntryData, LaterRequestsData, accepted_entry, does_wait, due_of, opened, still_standing, still_stands}
 use Rattle.later_replies.specs.Runs.{is_to_run}
 use Rattle.later_replies.specs.Step.{LaterStep}
 use Rattle.later_laws.specs.Laws.{run_numbers}
-use Rattle.later_laws.specs.Sound.{IsKeptAsRun, IsSoundLater, StandsAt, last_from}
 use Rattle.later_laws.specs.Turns.{IsTurn, Turn, turn_history}
-use Rattle.later_laws.proofs.AnswerLemmas.{comes_holds}
 use Rattle.later_laws.proofs.OrderLemmas.{each_filter, each_left, each_snoc, each_weaker, left_numbers, rises_above}
 use Rattle.later_laws.proofs.SoundLemmas.{InOrder, moment_stays, max_past, runs_stay, turn_keeps}
 use Rattle.later_laws.proofs.TurnLemmas.{home_kept, turn_comes, turn_leads, turn_of}

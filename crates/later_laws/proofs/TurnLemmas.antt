@@ -10,13 +10,13 @@ use Rattle.cse_machine.specs.History.{History, HistoryLeaves}
 use Rattle.cse_machine.specs.Step.{Step}
 use Rattle.cse_machine.specs.declared.event.Event.{Event}
 use Rattle.cse_machine.specs.declared.event.Outcome.{Outcome}
-use Rattle.guard_laws.proofs.HistoryLemmas.{same_entity}
+use Rattle.cse_machine.proofs.SameLemmas.{same_entity}
+use Rattle.later_replies.specs.Answered.{ComesTo}
+use Rattle.later_replies.proofs.AnswerLemmas.{comes_to}
 use Rattle.later_replies.specs.Entries.{LaterData, LaterEntryData, still_standing}
 use Rattle.later_replies.specs.Runs.{ArePassed, IsPassed, is_to_run}
 use Rattle.later_replies.specs.Step.{IsAnsweredBy, LaterStep, event_effect}
-use Rattle.later_laws.specs.Answered.{ComesTo}
 use Rattle.later_laws.specs.Turns.{AreLeft, HasTurns, IsTurn, Ran, Turn, inner_history, run_history, turn_history}
-use Rattle.later_laws.proofs.AnswerLemmas.{comes_to}
 
 -- ---- the runs
 

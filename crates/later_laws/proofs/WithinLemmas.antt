@@ -18,9 +18,9 @@ use Rattle.later_replies.specs.Effects.{with_accepted}
 use Rattle.later_replies.specs.Entries.{LaterData, LaterEntryData, LaterRequestsData, accepted_entry, does_wait, still_standing, still_stands}
 use Rattle.later_replies.specs.Runs.{AreBounded, ArePassed, is_to_run, kept_then, with_outcome}
 use Rattle.later_replies.specs.Step.{LaterStep}
-use Rattle.later_laws.proofs.AnswerLemmas.{comes_holds}
 use Rattle.later_laws.proofs.TurnLemmas.{step_comes}
 use Rattle.later_laws.specs.Sizes.{KeepsWithin, largest_result}
+use Rattle.later_replies.proofs.AnswerLemmas.{comes_holds}
 
 -- ---- one
 

@@ -18,6 +18,8 @@ use Rattle.cse_machine.specs.declared.event.Event.TheVariants.{Ask}
 use Rattle.cse_machine.specs.declared.event.Outcome.{Outcome}
 use Rattle.cse_machine.specs.declared.event.Outcome.TheVariants.{Done, Starved}
 use Rattle.guard_laws.specs.Guard.{IsGuarded}
+use Rattle.later_replies.specs.Answered.{ComesTo, IsDeletedByOwn, IsTakenUp, ShowsOwn, TellsNumber}
+use Rattle.later_replies.specs.Sound.{IsSoundLater, Rises}
 use Rattle.later_replies.specs.Effects.{is_acceptable, is_full, is_own, with_accepted}
 use Rattle.later_replies.specs.Entries.{LaterData, LaterEntryData}
 use Rattle.later_replies.specs.Entries.{accepted_entry, does_wait, opened, still_standing}
@@ -26,8 +28,6 @@ use Rattle.accepted_requests.specs.Form.{uri_content}
 use Rattle.later_replies.specs.Names.{entry_at}
 use Rattle.later_replies.specs.Runs.{is_to_run}
 use Rattle.later_replies.specs.Step.{LaterStep}
-use Rattle.later_laws.specs.Answered.{ComesTo, IsDeletedByOwn, IsTakenUp, ShowsOwn, TellsNumber}
-use Rattle.later_laws.specs.Sound.{IsSoundLater, Rises}
 use Rattle.later_laws.specs.Turns.{HasTurns, IsTurn, Ran, Turn, all_ran, as_ran, inner_history}
 
 -- ---- what is asked inside

@@ -15,8 +15,8 @@ use Rattle.machine_laws.specs.Sight.{IsRequestBy, is_calm, is_polling}
 use Rattle.accepted_requests.specs.Effects.{owns}
 use Rattle.later_replies.specs.Entries.{LaterData, LaterEntryData, does_wait}
 use Rattle.later_replies.specs.Runs.{is_to_run}
-use Rattle.later_laws.specs.Sound.{IsSoundLater}
 use Rattle.later_laws.specs.Turns.{HasTurns, IsTurn, Ran, Turn}
+use Rattle.later_replies.specs.Sound.{IsSoundLater}
 
 -- what an originator sees of an accepted request: under which number it stands and when it was
 -- accepted, by which it goes; and all of it, where it is its own

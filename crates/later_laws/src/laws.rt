@@ -6,6 +6,7 @@ ghost use Rattle.later_laws.specs.Laws.{LaterStaysSound, OpensSound, OthersAreRe
 ghost use Rattle.later_laws.specs.Laws.{OwnAloneIsShown, ResultsAreRepliesOfRuns, RunsOnce};
 ghost use Rattle.later_laws.specs.Laws.{RunsRise, WhatIsAcceptableIsAccepted};
 ghost use Rattle.later_laws.specs.Laws.{WhatIsNotRunStays, WhatWaitsIsRun};
+ghost use Rattle.later_laws.specs.Once.{AcceptedAreDoneOnce, StaysUntilItGoes};
 ghost use Rattle.later_laws.specs.Sizes.{OpensWithin, ResultsStayWithin};
 ghost use Rattle.later_laws.specs.Sights.{EqualSightsAnswerAlikeLater, EqualSightsStayAlikeLater};
 
@@ -42,6 +43,13 @@ pub fn accepted_requests_are_run_once_in_order()
     ensures run { WhatWaitsIsRun }
     ensures left { WhatIsNotRunStays }
     ensures once { RunsOnce }
+{}
+
+/// An accepted request is kept until it is due or its originator deletes it. It is run once, by the
+/// events before a crash or by those behind it.
+pub fn accepted_requests_are_done_once()
+    ensures stays { StaysUntilItGoes }
+    ensures once { AcceptedAreDoneOnce }
 {}
 
 /// The result that is kept of an accepted request is the reply of its run, and no other result is

@@ -7,8 +7,8 @@ use Rattle.primitive_json.specs.declared.request.RequestParts.{RequestParts}
 use Rattle.resource_model.specs.Home.{HomeData}
 use Rattle.entity_model.specs.Entity.{EntityData, event_moment, swept}
 use Rattle.cse_machine.specs.Answer.{effect_of}
-use Rattle.guard_laws.proofs.ChangingLemmas.{IsKept}
-use Rattle.guard_laws.proofs.GuardLemmas.{Came, kept, left_by, replied, went_on}
+use Rattle.cse_machine.proofs.KeptLemmas.{IsKept}
+use Rattle.cse_machine.proofs.CameLemmas.{Came, kept, left_by, replied, went_on}
 use Rattle.accepted_requests.specs.Entries.{LaterEntryData, LaterRequestsData, does_wait, no_entries}
 use Rattle.journal_lines.specs.declared.deed.Dated.{Dated}
 use Rattle.journal_lines.specs.declared.deed.Deed.{Deed as PlainDeed}

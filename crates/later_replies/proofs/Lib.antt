@@ -1,3 +1,4 @@
+pub mod AnswerLemmas
 pub mod HeardLemmas
 pub mod RunLemmas
 pub mod StepLemmas

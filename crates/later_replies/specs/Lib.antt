@@ -3,3 +3,5 @@ pub mod Names
 pub mod Runs
 pub mod Effects
 pub mod Step
+pub mod Answered
+pub mod Sound

@@ -12,8 +12,8 @@ use Rattle.retrieve_discover.specs.Replies.{success}
 use Rattle.machine_laws.specs.Sight.{does_poll, is_poll, polls_at, sight}
 use Rattle.machine_laws.proofs.FanSightLemmas.{fan_alike, fan_named, group_there, members_seen}
 use Rattle.machine_laws.proofs.RouteSightLemmas.{AreOrdered, comes-seen, cse_named-seen, cse_there, in_order_at, url-seen}
-use Rattle.guard_laws.specs.Guard.{spot_asked}
-use Rattle.guard_laws.proofs.WayLemmas.{taken_answer}
+use Rattle.cse_machine.specs.Answer.{spot_asked}
+use Rattle.cse_machine.proofs.WayLemmas.{taken_answer}
 
 -- two effects that leave entities of which this holds, and reply the same but to a poll
 pub record AreLeftSo (Rel : EntityData → EntityData → Type 0) (poll : Bool) (x y : Effect) : Type 0 where

@@ -4,7 +4,8 @@ use Rattle.machine_laws.proofs.Terms.{readings_of, events_of, outcomes_of, Reque
 use Rattle.machine_laws.proofs.Facts.{and_parts, both_ways, or_parts, All-head, All-tail}
 use Rattle.std.specs.Prelude.{Option, Some, None, Result, Ok, Err}
 use Rattle.machine_laws.specs.Sight.{EqualSightsAnswerAlike, EqualSightsKeepOneShape, EqualSightsStayAlike, EqualSightsStayEqual, HaveAnswersOf, IsBy, IsRequestBy, NonePolls, WithoutTheSegmentNonePolls, are_calm_but_last, does_event_poll, does_poll, is_calm, is_calm_event, is_poll, is_poll_point, is_polling_event, names_poll, polls_at, shape, sight}
-use Rattle.guard_laws.proofs.HistoryLemmas.{none_some, same_entity, same_first, same_rest, sound_step}
+use Rattle.guard_laws.proofs.HistoryLemmas.{none_some, same_first, same_rest, sound_step}
+use Rattle.cse_machine.proofs.SameLemmas.{same_entity}
 use Rattle.machine_laws.proofs.PollSightLemmas.{poll_named}
 use Rattle.machine_laws.proofs.ShapeLemmas.{one_shape}
 use Rattle.machine_laws.proofs.SightLemmas.{IsHeardAlike, heard-alike, heard_so, judges_anew, passed-alike}

@@ -6,13 +6,15 @@ use Rattle.std.specs.Prelude.{◌+◌}
 use Rattle.create_delete.proofs.ChangesLemmas.{nothing_apart}
 use Rattle.change_laws.proofs.ServedLemmas.{creation_adds_one, next_rises, update_alone}
 use Rattle.machine_laws.specs.Asked.{CreatesAddOne, DeletesTakeTheirTarget, IsServedStep, NumbersRiseByWhatIsNew, UpdatesChangeTheirTarget, told_of}
-use Rattle.guard_laws.specs.Guard.{is_fan_point, is_success}
-use Rattle.guard_laws.proofs.ChangingLemmas.{comes_at, fault_there, told_done, unrefused}
-use Rattle.guard_laws.proofs.GuardLemmas.{Served, comes, performed_is, served_after, served_on, served_reply}
-use Rattle.guard_laws.proofs.HistoryLemmas.{done_holds}
-use Rattle.guard_laws.proofs.RelayLemmas.{relays}
+use Rattle.guard_laws.specs.Guard.{is_fan_point}
+use Rattle.m2m_names.specs.StatusCodes.{is_success}
+use Rattle.cse_machine.proofs.KeptLemmas.{comes_at, fault_there, relays, told_done}
+use Rattle.cse_machine.proofs.CameLemmas.{comes}
+use Rattle.cse_machine.proofs.SameLemmas.{done_holds}
+use Rattle.cse_machine.proofs.WayLemmas.{given_note, taken_answer}
+use Rattle.guard_laws.proofs.ChangingLemmas.{unrefused}
+use Rattle.guard_laws.proofs.GuardLemmas.{Served, performed_is, served_after, served_on, served_reply}
 use Rattle.machine_laws.proofs.RiseLemmas.{as_many_new, untold}
-use Rattle.guard_laws.proofs.WayLemmas.{given_note, taken_answer}
 
 -- what was served on its target, and left so
 served_step : (reading : ℕ) (request : RequestParts) (before after : EntityData) (reply : ReplyParts) (target : ResourceData) → IsServedStep reading request before after reply target → Served (swept reading before) request target

@@ -8,10 +8,10 @@ use Rattle.group_fanout.specs.Operations.{change_effect}
 use Rattle.retarget.specs.declared.routing.Route.{Route}
 use Rattle.retarget.specs.declared.routing.Route.TheVariants as to
 use Rattle.machine_laws.specs.Complete.{IsStarved, IsSuccess, MayBeDone, WhatIsAnsweredIsTaken, WhatMayBeFannedOutIsFannedOut, WhatMayBeServedIsServed, WhatMayGoOnGoesOn, WhatWaitsIsGiven}
-use Rattle.guard_laws.specs.Guard.{spot_asked}
-use Rattle.guard_laws.specs.Heard.{MayBeHeard}
+use Rattle.cse_machine.specs.Answer.{spot_asked}
+use Rattle.cse_machine.specs.Heard.{MayBeHeard}
+use Rattle.cse_machine.proofs.WayLemmas.{fanned_by, given_note, heard, taken_answer}
 use Rattle.guard_laws.proofs.RelayLemmas.{relay_unrefused}
-use Rattle.guard_laws.proofs.WayLemmas.{fanned_by, given_note, heard, taken_answer}
 
 -- ---- what no place refuses
 

@@ -9,8 +9,8 @@ use Rattle.retarget.specs.declared.routing.Route.TheVariants as to
 use Rattle.group_fanout.specs.Operations.{change_effect, relay_effect}
 use Rattle.machine_laws.specs.Outbox.{Account, AccountStep, Accounted, Accounts, OutboxesAreAccounted, Waits, aged, aged_line, change_notes, channel_at, channel_polled, does_wait, done_notes, expired_account, expiry_items, found_items, given, is_dropped, is_justly_dropped, is_too_old, member_items, noted, notes_told, operation_notes, polled_by, relay_notes, request_items, requested_account, short_account, spot_items, waiting_of}
 use Rattle.guard_laws.proofs.CutLemmas.{short_last}
-use Rattle.guard_laws.proofs.HistoryLemmas.{done_keeps, onward_leaves}
-use Rattle.guard_laws.proofs.WayLemmas.{given_note, taken_answer}
+use Rattle.cse_machine.proofs.SameLemmas.{done_keeps, onward_leaves}
+use Rattle.cse_machine.proofs.WayLemmas.{given_note, taken_answer}
 
 -- ---- what waits
 

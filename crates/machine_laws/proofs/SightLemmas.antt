@@ -8,12 +8,13 @@ use Rattle.policy_laws.proofs.TwiceLemmas.{left-seen, live-same, seen_list-twice
 use Rattle.sight_laws.proofs.AnswerLemmas.{retrieved-seen}
 use Rattle.sight_laws.proofs.SightLemmas.{discovered-seen}
 use Rattle.group_fanout.specs.Operations.{change_effect, relay_effect}
-use Rattle.guard_laws.proofs.MemberLemmas.{IsSoundAt, MaySend, member_kept, of_member}
+use Rattle.guard_laws.proofs.MemberLemmas.{IsSoundAt, MaySend}
+use Rattle.cse_machine.proofs.MemberLemmas.{member_kept, of_member}
+use Rattle.cse_machine.proofs.JudgedLemmas.{heard_facts, refused_effect}
 use Rattle.guard_laws.proofs.RelayLemmas.{relay_nodes}
 use Rattle.sight_laws.specs.Laws.{changes_rules}
 use Rattle.machine_laws.proofs.AddressAlikeLemmas.{AreAnsweredSo, asked_same, carried_by_sight, effect_so}
 use Rattle.machine_laws.proofs.ChangeAlikeLemmas.{SameShape, SameSight, create_so, rules_so, update_so}
-use Rattle.guard_laws.proofs.JudgedLemmas.{heard_facts, refused_effect}
 use Rattle.retarget.specs.declared.routing.Route.TheVariants as to
 use Rattle.machine_laws.proofs.RouteSightLemmas.{AreOrdered, order_seen, order_swept}
 use Rattle.machine_laws.specs.Sight.{sight, asks_sight_alone, does_update, is_calm, is_poll, polls_at, IsRequestBy}

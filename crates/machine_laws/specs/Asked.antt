@@ -15,8 +15,9 @@ use Rattle.create_delete.specs.Telling.{gone_numbers}
 use Rattle.change_laws.specs.Served.{AddsOne, ChangesOne}
 use Rattle.cse_machine.specs.declared.event.Event.TheVariants.{Ask}
 use Rattle.cse_machine.specs.declared.event.Outcome.TheVariants.{Done}
-use Rattle.cse_machine.specs.Answer.{addressed}
-use Rattle.guard_laws.specs.Guard.{is_fan_point, is_success, spot_asked}
+use Rattle.cse_machine.specs.Answer.{addressed, spot_asked}
+use Rattle.guard_laws.specs.Guard.{is_fan_point}
+use Rattle.m2m_names.specs.StatusCodes.{is_success}
 use Rattle.cse_machine.specs.Step.{Step}
 
 -- The request was served at a step: its reply is a success, and its address names this resource of

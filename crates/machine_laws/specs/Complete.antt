@@ -39,13 +39,12 @@ use Rattle.cse_machine.specs.declared.event.Event.TheVariants.{Ask}
 use Rattle.cse_machine.specs.declared.event.Outcome.{Outcome}
 use Rattle.cse_machine.specs.declared.event.Outcome.TheVariants.{Done, Forward, Item, Ticked}
 use Rattle.cse_machine.specs.declared.event.Outcome.TheVariants.{Starved}
-use Rattle.cse_machine.specs.Answer.{addressed, has_answer}
+use Rattle.cse_machine.specs.Answer.{addressed, has_answer, spot_asked}
 use Rattle.group_fanout.specs.Fan.{gathered, is_fanned, may_fan, member_requests, rest_of}
 use Rattle.group_fanout.specs.Fan.{singles_of}
 use Rattle.group_fanout.specs.Rights.{claimed_originator, has_right}
 use Rattle.cse_machine.specs.Step.{Step}
-use Rattle.guard_laws.specs.Guard.{spot_asked}
-use Rattle.guard_laws.specs.Heard.{MayBeHeard}
+use Rattle.cse_machine.specs.Heard.{MayBeHeard}
 use Rattle.machine_laws.specs.Outbox.{may_poll}
 
 -- ---- what speaks against a request

@@ -23,10 +23,9 @@ use Rattle.entity_model.specs.Sound.{IsSoundEntity}
 use Rattle.cse_machine.specs.declared.event.Event.{Event}
 use Rattle.cse_machine.specs.declared.event.Event.TheVariants.{Ask, Take, Tick}
 use Rattle.cse_machine.specs.declared.event.Outcome.{Outcome}
-use Rattle.cse_machine.specs.Answer.{effect_of}
+use Rattle.cse_machine.specs.Answer.{effect_of, spot_asked}
 use Rattle.cse_machine.specs.History.{History, HistoryLeaves, IsDone}
 use Rattle.group_fanout.specs.Rights.{claimed_originator}
-use Rattle.guard_laws.specs.Guard.{spot_asked}
 use Rattle.cse_machine.specs.Step.{Step}
 
 -- What an originator sees of a sound entity has the shape of that entity.

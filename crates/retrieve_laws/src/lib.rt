@@ -1,9 +1,8 @@
 //! Laws of what a Retrieve shows and what a discovery finds, over every list of resources.
 //!
-//! No program calls them; the proofs of guard_laws, and so a journal's, stand on them. Each is the
-//! clause of a function without a body, about the definitions of addressing and retrieve_discover.
-//! Nothing is shown or found without a grant, and what a reply tells of other resources is told by
-//! right.
+//! No program stands on them, but the proofs of guard_laws do. Each is the clause of a function
+//! without a body, about the definitions of addressing and retrieve_discover. Nothing is shown or
+//! found without a grant, and what a reply tells of other resources is told by right.
 //!
 //! ```text
 //! nothing_is_shown_or_found_without_a_grant(); // each call has its law as its contract

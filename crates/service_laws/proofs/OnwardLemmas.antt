@@ -42,7 +42,7 @@ use Rattle.entity_model.proofs.TellingLemmas.{sound_swept}
 use Rattle.group_fanout.specs.Rights.{claimed_originator}
 use Rattle.cse_machine.specs.Answer.{EventEffect, address_effect, effect_of, has_originator, onward_effect, point_of, route_effect}
 use Rattle.cse_machine.proofs.PlaceLemmas.{claimed_valid}
-use Rattle.guard_laws.proofs.JudgedLemmas.{heard_effect, is_heard, judged, refused_effect, turned_down}
+use Rattle.cse_machine.proofs.JudgedLemmas.{heard_effect, is_heard, judged, refused_effect, turned_down}
 use Rattle.binding_laws.specs.AsRead.{IsAsRead, IsText}
 use Rattle.binding_laws.specs.ReadBack.{IsOneWord, IsTellable, SaysAll, is_no_space}
 use Rattle.binding_laws.proofs.PlainLemmas.{is_part_byte, parts_address, parts_target, parts_utf8}

@@ -5,7 +5,7 @@ use Rattle.service_laws.proofs.Facts.{All-head, All-tail, Grew-runs, none_some, 
 use Rattle.std.proofs.Common.{append_assoc, length-append}
 use Rattle.std.specs.List.{flat_map}
 use Rattle.std.proofs.lemmas.List.Elements.{All-cons, All-nil}
-use Rattle.guard_laws.proofs.HistoryLemmas.{same_entity}
+use Rattle.cse_machine.proofs.SameLemmas.{same_entity}
 use Rattle.http_forwarding.specs.Carries.{LinkTold}
 use Rattle.turn_desk.specs.Entries.{IsOwn, all_entries, as_own}
 use Rattle.turn_desk.specs.Growth.{Grew, IsOwnRun}

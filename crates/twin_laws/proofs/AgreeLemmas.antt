@@ -17,7 +17,8 @@ use Rattle.cse_machine.specs.declared.event.Event.TheVariants.{Ask as AskEvent, 
 use Rattle.cse_machine.specs.declared.event.Outcome.{Outcome}
 use Rattle.cse_machine.specs.declared.event.Outcome.TheVariants.{Ticked}
 use Rattle.group_fanout.specs.Rights.{claimed_originator}
-use Rattle.guard_laws.proofs.HistoryLemmas.{same_entity, sound_step}
+use Rattle.guard_laws.proofs.HistoryLemmas.{sound_step}
+use Rattle.cse_machine.proofs.SameLemmas.{same_entity}
 use Rattle.machine_laws.specs.Sight.{IsRequestBy, is_calm, is_poll}
 use Rattle.machine_laws.proofs.AlikeLemmas.{AreStillAlike, step_alike}
 use Rattle.primitive_replay.specs.Script.{as_line}

@@ -1,7 +1,8 @@
 use Rattle.guard_laws.proofs.Words.{ap, ◌∙◌}
+use Rattle.cse_machine.proofs.SameLemmas.{done_keeps, onward_leaves, starved_alone}
 use Rattle.guard_laws.proofs.Terms.{EntityData, swept}
 use Rattle.guard_laws.proofs.GuardLemmas.{notified_still, retrieved_still}
-use Rattle.guard_laws.proofs.HistoryLemmas.{done_keeps, onward_leaves, starved_alone, starved_undone}
+use Rattle.guard_laws.proofs.HistoryLemmas.{starved_undone}
 use Rattle.guard_laws.proofs.laws.what_is_refused_or_read_changes_nothing.Goals as goal
 
 pub returns-clause-refused : goal.returns-clause-refused

@@ -1,5 +1,5 @@
 use Rattle.machine_laws.proofs.AskedLemmas.{create_adds, delete_takes, numbers_rise, update_changes}
-use Rattle.guard_laws.proofs.HistoryLemmas.{same_entity}
+use Rattle.cse_machine.proofs.SameLemmas.{same_entity}
 use Rattle.machine_laws.proofs.laws.a_step_changes_what_is_asked_alone.Goals as goal
 
 pub returns-clause-entity : goal.returns-clause-entity

@@ -18,7 +18,7 @@ use Rattle.later_replies.specs.Effects.{LaterEffect, acceptance, asker_effect, e
 use Rattle.later_replies.specs.Entries.{LaterEntryData, LaterRequestsData, without}
 use Rattle.later_replies.specs.Names.{entry_at}
 use Rattle.later_replies.specs.Step.{IsAnsweredBy, event_effect}
-use Rattle.later_laws.specs.Answered.{AsksLater, ComesTo, IsOwnAsked, IsTakenUp, NamesAccepted}
+use Rattle.later_replies.specs.Answered.{AsksLater, ComesTo, IsOwnAsked, IsTakenUp, NamesAccepted}
 
 module _ (home : HomeData) (requests : LaterRequestsData) (moment : ℕ) where
   -- an effect is that of a request which asks to be answered later

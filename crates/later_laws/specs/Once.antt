@@ -3,11 +3,11 @@ use Rattle.std.specs.Prelude.{◌≡◌, ◌⊎◌, ◌≤◌, true, false, List
 use Rattle.cse_machine.specs.History.{History}
 use Rattle.later_replies.specs.Entries.{LaterData, LaterEntryData, does_wait, still_standing}
 use Rattle.later_replies.specs.Entries.{still_stands}
-use Rattle.later_laws.specs.Answered.{IsDeletedByOwn}
 use Rattle.later_laws.specs.Laws.{ComesToRun, all_run_numbers, times}
-use Rattle.later_laws.specs.Sound.{IsSoundLater}
 use Rattle.later_laws.specs.Turns.{HasTurns, Ran, Turn, all_ran, as_ran}
 use Rattle.journaled_later.specs.Keeping.{IsAtEarlier}
+use Rattle.later_replies.specs.Answered.{IsDeletedByOwn}
+use Rattle.later_replies.specs.Sound.{IsSoundLater}
 
 -- ---- how it leaves
 

@@ -1,10 +1,42 @@
--- What comes of a request: a refusal, or what its operation on a resource gives.
-use Rattle.guard_laws.proofs.Words.{◌≡◌, ℕ, List, [], ◌∷◌, map, Bool, true, false, cond, Option, Some, None, is_some, Result, Ok, Err, inl, inr, refl, sym, ap, subst, ◌∙◌, option_and_then, option_map_or}
-use Rattle.guard_laws.proofs.Terms.{Rsc, BadRequest, NotAllowed, NotFound, NoPrivilege, NotReachable, Fine, RequestTimeout, is_originator, Op, Create, Retrieve, Update, Delete, Notify, NoteParts, ReplyParts, RequestParts, ResourceData, at, has, address_of, named_here, spot_of, Addr, Local, Foreign, OtherProvider, AddrFault, Spot, Resource, Fan, Poll, grants, discovery_bit, retrieve_bit, EntityData, Effect, first_fault, on_found, refusal, refused, reply_alone, reply_to, unless, first_waiting, handed_on, without_waiting, discovered, retrieved, retrieved_of, success, has_answer, has_originator, has_address, is_in_time, is_blocking, EventEffect, as_done, address_effect, goes_on, onward_effect, point_of, poll_effect, resource_at, route_effect, addressed, spot_effect, effect_of, operation_effect, reading_reply, resource_effect, has_form, cse_named, first_url, comes_from_cse, routed_to, fan_effect, fanned, is_fanned, listed_members, may_fan, member_requests, requests_to, rest_of, with_rest, is_discovery, claimed_originator, has_right}
-use Rattle.guard_laws.proofs.Facts.{cases_Bool, at_number, claimed_valid}
+-- The ways that a request may take.
+use Rattle.std.proofs.Common.{Bool, Err, List, None, Ok, Option, Result, Some, [], ap, cond, false, inl, inr, is_some, map, refl, subst, sym, true, ℕ, ◌∙◌, ◌∷◌, ◌≡◌}
+use Rattle.std.proofs.lemmas.Bool.{cases_Bool}
+use Rattle.std.specs.Option.{option_and_then, option_map_or}
+use Rattle.m2m_names.specs.Name.{is_originator}
+use Rattle.m2m_names.specs.StatusCodes.{is_success}
+use Rattle.m2m_names.specs.declared.codes.Rsc.{Rsc}
+use Rattle.m2m_names.specs.declared.codes.Rsc.TheVariants.{BadRequest, NoPrivilege, NotAllowed, NotFound, NotReachable, RequestTimeout}
+use Rattle.m2m_names.specs.declared.codes.Rsc.TheVariants.{Ok as Fine}
+use Rattle.m2m_names.specs.declared.operations.Op.{Op}
+use Rattle.m2m_names.specs.declared.operations.Op.TheVariants.{Create, Delete, Notify, Retrieve, Update}
+use Rattle.primitive_json.specs.Form.{has_form}
+use Rattle.primitive_json.specs.declared.note.NoteParts.{NoteParts}
+use Rattle.primitive_json.specs.declared.request.RequestParts.{RequestParts}
+use Rattle.resource_model.specs.Resource.{ResourceData}
+use Rattle.tree_model.proofs.TreeLemmas.{at_number}
+use Rattle.tree_model.specs.Tree.{at, has}
+use Rattle.policy_eval.specs.Rights.{grants, retrieve_bit}
+use Rattle.addressing.specs.Addresses.{address_of}
+use Rattle.addressing.specs.Laws.{named_here}
+use Rattle.addressing.specs.Names.{spot_of}
+use Rattle.addressing.specs.declared.addr.Addr.{Addr}
+use Rattle.addressing.specs.declared.addr.Addr.TheVariants.{Foreign, Local, OtherProvider}
+use Rattle.addressing.specs.declared.addr.AddrFault.{AddrFault}
+use Rattle.addressing.specs.declared.spot.Spot.{Spot}
+use Rattle.addressing.specs.declared.spot.Spot.TheVariants.{Fan, Poll, Resource}
+use Rattle.subscription_match.specs.Destinations.{cse_named, first_url}
+use Rattle.retarget.specs.Routes.{comes_from_cse, routed_to}
 use Rattle.retarget.specs.declared.routing.Route.TheVariants as to
-use Rattle.guard_laws.specs.Guard.{is_success, spot_asked}
-use Rattle.guard_laws.proofs.JudgedLemmas.{heard_effect, is_heard, judged, refused_effect, turned_down}
+use Rattle.entity_model.specs.Entity.{EntityData}
+use Rattle.entity_model.specs.Places.{Effect, first_fault, on_found, refused, reply_alone, reply_to, unless}
+use Rattle.retrieve_discover.specs.Polling.{first_waiting, handed_on, without_waiting}
+use Rattle.retrieve_discover.specs.Replies.{success}
+use Rattle.group_fanout.specs.Fan.{fan_effect, fanned, is_fanned, listed_members, may_fan, member_requests, requests_to, rest_of, with_rest}
+use Rattle.group_fanout.specs.Operations.{operation_effect, resource_effect}
+use Rattle.group_fanout.specs.Rights.{claimed_originator, has_right}
+use Rattle.cse_machine.proofs.JudgedLemmas.{heard_effect, is_heard, judged, refused_effect, turned_down}
+use Rattle.cse_machine.proofs.PlaceLemmas.{claimed_valid}
+use Rattle.cse_machine.specs.Answer.{EventEffect, address_effect, addressed, as_done, effect_of, goes_on, has_address, has_answer, has_originator, is_blocking, is_in_time, onward_effect, point_of, poll_effect, resource_at, route_effect, spot_asked, spot_effect}
 
 -- ---- a request
 
@@ -186,38 +218,4 @@ module _ (e : EntityData) (request : RequestParts) where
   way_of = elim (judged e request) [
     | turned_down fault other is ↦ refuses (fault, other, refused_effect e request fault is)
     | is_heard none facts ↦ subst (Way e request) (sym (heard_effect e request none)) (by_address address_is facts.originator refl)
-  ]
-
--- ---- reading
-
--- reading is refused; or it looks for resources by DISCOVERY, or shows by RETRIEVE
-pub data Reading (e : EntityData) (request : RequestParts) (r : ResourceData) (reply : ReplyParts) : Type 0 where
-  refused_read : (fault : Rsc) → is_success fault ≡ false → reply ≡ refusal request fault → Reading e request r reply
-  found_read : is_discovery request ≡ true → grants e.home e.nodes (claimed_originator e.home request) discovery_bit r.number ≡ true → Reading e request r reply
-  shown_read : is_discovery request ≡ false → grants e.home e.nodes (claimed_originator e.home request) retrieve_bit r.number ≡ true → Reading e request r reply
-
-module _ (e : EntityData) (request : RequestParts) (r : ResourceData) (there : at r.number e.nodes ≡ Some r) where
-  abbrev o : List ℕ
-  o = claimed_originator e.home request
-
-  found_way : is_discovery request ≡ true → Reading e request r (discovered e.home e.nodes o request r.number)
-  found_way d = elim (cases_Bool (grants e.home e.nodes o discovery_bit r.number)) [
-    | inl t ↦ found_read d t
-    | inr f ↦ refused_read NoPrivilege refl (rw f refl)
-  ]
-
-  shown_way : is_discovery request ≡ false → Reading e request r (retrieved_of e.home e.nodes o request r)
-  shown_way d = elim (cases_Bool (grants e.home e.nodes o retrieve_bit r.number)) [
-    | inr f ↦ refused_read NoPrivilege refl (rw f refl)
-    | inl t ↦ shown_read d t
-  ]
-
-  pub reading : Reading e request r (reading_reply e request r.number)
-  reading = elim (cases_Bool (is_discovery request)) [
-    | inl d ↦ (let is : reading_reply e request r.number ≡ discovered e.home e.nodes o request r.number = rw d refl in subst (Reading e request r) (sym is) (found_way d))
-    | inr d ↦
-        let is : reading_reply e request r.number ≡ retrieved e.home e.nodes o request r.number = rw d refl in
-        let of : retrieved e.home e.nodes o request r.number ≡ retrieved_of e.home e.nodes o request r =
-        ap (λ (x : Option ResourceData). option_map_or (retrieved_of e.home e.nodes o request) x (refusal request NotFound)) there in
-        subst (Reading e request r) (sym (is ∙ of)) (shown_way d)
   ]

@@ -11,17 +11,17 @@ use Rattle.cse_machine.specs.declared.event.Outcome.{Outcome}
 use Rattle.later_replies.specs.Entries.{LaterData, LaterEntryData, LaterRequestsData, does_wait, still_standing, still_stands}
 use Rattle.later_replies.specs.Runs.{is_to_run}
 use Rattle.later_laws.proofs.GoingLemmas.{acceptance_adds, contains_behind, contains_first, contains_mapped, contains_none, contains_of_filtered, contains_one_of, from_mapped, goes_when_due_or_by_own, left_is}
-use Rattle.later_laws.proofs.AnswerLemmas.{comes_holds}
 use Rattle.later_laws.proofs.OnceLemmas.{comes_to_run, each_at, entry_run, numbers_run, times_once}
 use Rattle.later_laws.proofs.OrderLemmas.{each_weaker, rises_above, rises_past}
 use Rattle.later_laws.proofs.SoundLemmas.{InOrder, run_numbers_by, turns_keep}
 use Rattle.later_laws.proofs.TurnLemmas.{turn_comes}
-use Rattle.later_laws.specs.Answered.{IsDeletedByOwn}
 use Rattle.later_laws.specs.Laws.{IsLeftAs, all_run_numbers, run_numbers, times}
-use Rattle.later_laws.specs.Sound.{IsSoundLater, Rises, last_from, numbers_of}
 use Rattle.later_laws.specs.Turns.{HasTurns, IsTurn, Ran, Turn, all_ran, as_ran}
 use Rattle.journaled_later.specs.Keeping.{IsAtEarlier}
-use Rattle.journaled_later.specs.Once.{AreDoneOnce, GoesAtOne, IsLeftByAll}
+use Rattle.later_replies.proofs.AnswerLemmas.{comes_holds}
+use Rattle.later_replies.specs.Answered.{IsDeletedByOwn}
+use Rattle.later_replies.specs.Sound.{IsSoundLater, Rises, last_from, numbers_of}
+use Rattle.later_laws.specs.Once.{AreDoneOnce, GoesAtOne, IsLeftByAll}
 
 -- ---- it stays
 

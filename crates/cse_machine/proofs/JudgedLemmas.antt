@@ -1,8 +1,16 @@
 -- A request is refused by the first of the places before its address is resolved, or goes by its address.
-use Rattle.guard_laws.proofs.Words.{◌≡◌, [], ◌∷◌, Bool, true, false, Option, Some, None, refl, sym, ap, ◌∙◌, option_map_or}
-use Rattle.guard_laws.proofs.Terms.{Rsc, BadRequest, NonBlocking, RequestTimeout, has_form, RequestParts, address_of, EntityData, first_fault, refused, unless, address_effect, as_done, effect_of, first_places, has_address, has_originator, is_blocking, is_in_time}
-use Rattle.guard_laws.specs.Guard.{is_success}
-use Rattle.guard_laws.specs.Heard.{MayBeHeard}
+use Rattle.std.proofs.Common.{Bool, None, Option, Some, [], ap, false, refl, sym, true, ◌∙◌, ◌∷◌, ◌≡◌}
+use Rattle.std.specs.Option.{option_map_or}
+use Rattle.m2m_names.specs.StatusCodes.{is_success}
+use Rattle.m2m_names.specs.declared.codes.Rsc.{Rsc}
+use Rattle.m2m_names.specs.declared.codes.Rsc.TheVariants.{BadRequest, NonBlocking, RequestTimeout}
+use Rattle.primitive_json.specs.Form.{has_form}
+use Rattle.primitive_json.specs.declared.request.RequestParts.{RequestParts}
+use Rattle.addressing.specs.Addresses.{address_of}
+use Rattle.entity_model.specs.Entity.{EntityData}
+use Rattle.entity_model.specs.Places.{first_fault, refused, unless}
+use Rattle.cse_machine.specs.Answer.{address_effect, as_done, effect_of, first_places, has_address, has_originator, is_blocking, is_in_time}
+use Rattle.cse_machine.specs.Heard.{MayBeHeard}
 
 -- the first place that doesn't hold refuses it, or each holds
 pub data Judged (e : EntityData) (request : RequestParts) : Type 0 where
