@@ -1,0 +1,4 @@
+pub mod Causes
+pub mod Facts
+pub mod Laws
+pub mod Texts
