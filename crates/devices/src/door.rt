@@ -4,11 +4,13 @@ ghost use Rattle.std.specs.Prelude.{◌≡◌, Some, None, false};
 use crate::TcpConn;
 use crate::clock::millis_now;
 use crate::log::Log;
+use crate::watch::Watch;
 use libc::{EBADF, EINVAL, EMFILE, ENOMEM};
 use m2m_io::{Door, Failed};
 use std::alloc::Global;
 use std::io::{Eprint, ErrorKind};
 use std::net::{Net, SocketAddr, TcpListener, TcpStream};
+use std::os::fd::AsRawFd;
 use std::time::{Clock, Duration};
 use std::{io, str};
 
@@ -37,8 +39,8 @@ const EOPNOTSUPP: i32 = 95;
 
 const EHOSTDOWN: i32 = 112;
 
-/// A listening socket as a door. It tells at what address it was opened, and how many connections
-/// it gave, up to 2^64 - 2 of them, and it never gives None. A client that is gone before it is let
+/// A listening socket as a door. It tells at what address it was opened, and how often it gave a
+/// connection, up to 2^64 - 2 times, and it never gives None. A client that is gone before it is let
 /// in is passed over, and so is one whose network fails then; where descriptors or memory are
 /// wanting it waits; so it fails only where it can't be opened, or the socket is gone.
 #[derive(Drop)]
@@ -46,6 +48,9 @@ pub struct TcpDoor<R> {
     log: Log<R>,
     whom: String,
     listener: Option<TcpListener>,
+    /// Whether idle connections have no worker.
+    is_parking: bool,
+    watch: Option<Watch>,
     address: Option<Vec<u8>>,
     is_silent: bool,
     given: u64,
@@ -54,7 +59,7 @@ pub struct TcpDoor<R> {
 
 /// What an error of `accept` is.
 #[derive(Clone, Copy, Debug, PartialEq, Eq)]
-enum AcceptFault {
+pub(crate) enum AcceptFault {
     /// It is one client's, or of the network between: the system hands it on with the socket.
     OfOneClient,
     /// Descriptors or memory are wanting, or something else that may pass.
@@ -71,7 +76,8 @@ fn is_of_network(error: &io::Error) -> bool {
     )
 }
 
-fn accept_fault_of(error: &io::Error) -> AcceptFault {
+/// What this error of `accept` is.
+pub(crate) fn accept_fault_of(error: &io::Error) -> AcceptFault {
     let is_gone = matches!(error.raw_os_error(), Some(EBADF | EINVAL | ENOTSOCK));
     let is_want = matches!(
         error.raw_os_error(),
@@ -122,8 +128,29 @@ impl<R> TcpDoor<R>
 where
     R: Net<Listener = TcpListener, Stream = TcpStream> + Clock + Eprint + Copy + Send,
 {
-    /// A door that is to be opened, for the CSE that is called so.
+    /// A door that is to be opened, for the CSE that is called so. It gives each client's
+    /// connection once, with a worker until it ends.
     pub fn new(log: Log<R>, whom: String) -> Self
+        ensures opened { ⟦<TcpDoor<R> as Door>⟧.opened result ≡ Some None }
+        ensures given { ⟦<TcpDoor<R> as Door>⟧.given result ≡ Some 0 }
+        ensures ended { ⟦<TcpDoor<R> as Door>⟧.ended result ≡ Some false }
+        ensures faults { ⟦<TcpDoor<R> as Door>⟧.faults result ≡ 0 }
+    {
+        TcpDoor::with_parking(log, whom, false)
+    }
+
+    /// Such a door that gives a connection once there is something to be served, and gives it again
+    /// after each time for which it was idle, so that an idle connection has no worker.
+    pub fn parking(log: Log<R>, whom: String) -> Self
+        ensures opened { ⟦<TcpDoor<R> as Door>⟧.opened result ≡ Some None }
+        ensures given { ⟦<TcpDoor<R> as Door>⟧.given result ≡ Some 0 }
+        ensures ended { ⟦<TcpDoor<R> as Door>⟧.ended result ≡ Some false }
+        ensures faults { ⟦<TcpDoor<R> as Door>⟧.faults result ≡ 0 }
+    {
+        TcpDoor::with_parking(log, whom, true)
+    }
+
+    fn with_parking(log: Log<R>, whom: String, is_parking: bool) -> Self
         ensures opened { ⟦<TcpDoor<R> as Door>⟧.opened result ≡ Some None }
         ensures given { ⟦<TcpDoor<R> as Door>⟧.given result ≡ Some 0 }
         ensures ended { ⟦<TcpDoor<R> as Door>⟧.ended result ≡ Some false }
@@ -133,6 +160,8 @@ where
             log,
             whom,
             listener: None,
+            is_parking,
+            watch: None,
             address: None,
             is_silent: false,
             given: 0,
@@ -142,6 +171,27 @@ where
 }
 
 impl<R: Net<Listener = TcpListener, Stream = TcpStream> + Clock + Eprint + Copy> TcpDoor<R> {
+    /// What watches the listening socket, where idle connections have no worker.
+    fn watched(&self, listener: &TcpListener) -> io::Result<Option<Watch>> {
+        if self.is_parking {
+            Ok(Some(Watch::new(&self.log, listener)?))
+        } else {
+            Ok(None)
+        }
+    }
+
+    /// A socket that listens at this address, and what watches it.
+    fn opened_at(&self, at: &[u8]) -> io::Result<(TcpListener, Option<Watch>)> {
+        let listener = self.bound(at)?;
+        let watch = self.watched(&listener)?;
+        let descriptor = match &watch {
+            Some(watch) => watch.descriptor(),
+            None => listener.as_raw_fd(),
+        };
+        self.log.doorway().open(descriptor);
+        Ok((listener, watch))
+    }
+
     fn bound(&self, at: &[u8]) -> io::Result<TcpListener> {
         match str::from_utf8(at) {
             Ok(at) => TcpListener::bind(&self.log.runtime(), at),
@@ -172,6 +222,12 @@ impl<R: Net<Listener = TcpListener, Stream = TcpStream> + Clock + Eprint + Copy>
     }
 }
 
+/// Says that a client waits, as descriptors or memory are wanting, and lets some time pass.
+pub(crate) fn wait_for_room<R: Clock + Eprint + Copy>(log: &Log<R>) {
+    log.fault("no descriptors or memory for a client, who waits");
+    log.runtime().sleep(Duration::from_millis(WANTING));
+}
+
 /// A connection of a client that was let in.
 fn connected<R: Clock + Eprint + Copy>(
     log: &Log<R>,
@@ -185,6 +241,7 @@ fn connected<R: Clock + Eprint + Copy>(
 fn accepted<R: Clock + Eprint + Copy>(listener: &TcpListener, log: &Log<R>) -> Option<TcpConn<R>> {
     for _ in 0..u64::MAX {
         match listener.accept() {
+            Ok((stream, peer)) if log.is_own_call(&stream, peer) => drop(stream),
             Ok((stream, peer)) => {
                 if let Ok(conn) = connected(log, stream, peer) {
                     return Some(conn);
@@ -192,10 +249,7 @@ fn accepted<R: Clock + Eprint + Copy>(listener: &TcpListener, log: &Log<R>) -> O
             }
             Err(error) => match accept_fault_of(&error) {
                 AcceptFault::OfOneClient => {}
-                AcceptFault::OfWant => {
-                    log.fault("no descriptors or memory for a client, who waits");
-                    log.runtime().sleep(Duration::from_millis(WANTING));
-                }
+                AcceptFault::OfWant => wait_for_room(log),
                 AcceptFault::Gone => return None,
             },
         }
@@ -205,13 +259,24 @@ fn accepted<R: Clock + Eprint + Copy>(listener: &TcpListener, log: &Log<R>) -> O
 
 /// The next client that is let in, if the socket gives one. One who has waited while no worker was
 /// left is spoken of.
-fn let_in<R: Clock + Eprint + Copy>(listener: &TcpListener, log: &Log<R>) -> Option<TcpConn<R>> {
+fn let_in<R: Clock + Eprint + Copy>(
+    listener: &TcpListener,
+    watch: Option<&mut Watch>,
+    log: &Log<R>,
+) -> Option<TcpConn<R>> {
     let doorway = log.doorway();
     if doorway.was_full(millis_now(&log.runtime())) {
         log.say_full();
     }
     doorway.begin();
-    let conn = accepted(listener, log);
+    let conn = match watch {
+        Some(watch) => {
+            let conn = watch.next(listener, log);
+            doorway.hold(watch.has_waiting(listener));
+            conn
+        }
+        None => accepted(listener, log),
+    };
     doorway.end(conn.is_some() as u64, millis_now(&log.runtime()));
     conn
 }
@@ -236,11 +301,11 @@ where
     ghost faults = { λ d. d.faults };
 
     fn open(&mut self, at: &[u8]) -> Result<(), Failed> {
-        match self.bound(at) {
-            Ok(listener) => {
-                self.log.doorway().open(&listener);
+        match self.opened_at(at) {
+            Ok((listener, watch)) => {
                 let port = port_of(&listener);
                 self.listener = Some(listener);
+                self.watch = watch;
                 match Vec::from_slice(self.log.allocator(), at) {
                     Ok(at) => self.address = Some(at),
                     Err(_) => self.is_silent = true,
@@ -258,10 +323,11 @@ where
 
     fn next(&mut self) -> Result<Option<TcpConn<R>>, Failed> {
         let log = &self.log;
+        let watch = self.watch.as_mut();
         match self
             .listener
             .as_ref()
-            .and_then(|listener| let_in(listener, log))
+            .and_then(|listener| let_in(listener, watch, log))
         {
             Some(conn) => {
                 self.given = self.given.saturating_add(1);

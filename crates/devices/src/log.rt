@@ -3,13 +3,17 @@ use crate::clock::millis_now;
 use crate::doorway::Doorway;
 use crate::figures::Figures;
 use crate::nowhere::{line_of_nowhere, subscription_of};
-use crate::replies::line_of_run;
+use crate::own_calls::{MOST_CALLS, OwnCall, OwnCalls};
+use crate::reasons::why_refused_in;
+use crate::replies::{line_of_run, with_reason};
 use libc::net::{POLLNVAL, POLLOUT, poll};
 use libc::types::pollfd;
 use m2m_names::write_stamp;
 use primitive_json::{Reply, Request};
+use resource_model::Home;
 use std::alloc::{AllocError as OutOfMemory, Global};
 use std::io::{Eprint, ErrorKind};
+use std::net::{SocketAddr, TcpStream};
 use std::sync::Arc;
 use std::sync::atomic::{AtomicU64, Ordering};
 use std::time::{Clock, Duration};
@@ -47,13 +51,15 @@ const MINUTE: u64 = 60_000;
 /// more is said of them.
 const MOST_NOWHERE: usize = 1_024;
 
-/// What all who write to a log share: the second in which faults were written last, how many were,
-/// how many lines were left out since, and whether somebody writes; what is known of the listening
-/// socket, and the moment before which nothing more is said of it; the figures, the moment before
-/// which they aren't said again, and how much had happened when they were said last; and the
-/// moments before which nothing more is said of items that go nowhere.
+/// What all who write to a log share: what the CSE is called; the second in which faults were
+/// written last, how many were, how many lines were left out since, and whether somebody writes;
+/// what is known of the listening socket, and the moment before which nothing more is said of it;
+/// the figures, the moment before which they aren't said again, and how much had happened when they
+/// were said last; the moments before which nothing more is said of items that go nowhere; and the
+/// connections that this program has opened.
 #[derive(Drop)]
 struct Shared {
+    home: Home,
     second: AtomicU64,
     faults: AtomicU64,
     left_out: AtomicU64,
@@ -64,6 +70,7 @@ struct Shared {
     figures_until: AtomicU64,
     happened: AtomicU64,
     nowhere_until: Vec<AtomicU64>,
+    calls: Arc<OwnCalls>,
 }
 
 /// So many words, which are 0.
@@ -85,7 +92,7 @@ fn number_of(text: &[u8]) -> usize {
 }
 
 /// Whether this moment is none before which nothing more is said. Then another one is.
-fn is_due(until: &AtomicU64, now: u64) -> bool {
+pub(crate) fn is_due(until: &AtomicU64, now: u64) -> bool {
     let before = until.load(Ordering::SeqCst);
     now >= before
         && until
@@ -135,14 +142,16 @@ fn is_closed() -> bool {
 }
 
 impl<R: Clock + Eprint + Copy + Drop> Log<R> {
-    /// A log of what this level says, and of nothing where standard error isn't open.
-    pub fn new(rt: R, alloc: Global, level: LogLevel) -> Result<Self, OutOfMemory> {
+    /// A log of what this level says of a server with this home, and of nothing where standard
+    /// error isn't open.
+    pub fn new(rt: R, alloc: Global, level: LogLevel, home: Home) -> Result<Self, OutOfMemory> {
         let level = if is_closed() {
             LogLevel::Nothing
         } else {
             level
         };
         let shared = Shared {
+            home,
             second: AtomicU64::new(0),
             faults: AtomicU64::new(0),
             left_out: AtomicU64::new(0),
@@ -153,6 +162,7 @@ impl<R: Clock + Eprint + Copy + Drop> Log<R> {
             figures_until: AtomicU64::new(millis_now(&rt).saturating_add(MINUTE)),
             happened: AtomicU64::new(0),
             nowhere_until: zeros(alloc, MOST_NOWHERE)?,
+            calls: Arc::new(alloc, OwnCalls::new(zeros(alloc, MOST_CALLS)?))?,
         };
         let shared = Arc::new(alloc, shared)?;
         Ok(Log {
@@ -181,6 +191,11 @@ impl<R: Clock + Eprint + Copy + Drop> Log<R> {
     /// The allocator with which it was made.
     pub fn allocator(&self) -> Global {
         self.alloc
+    }
+
+    /// What the CSE is called.
+    pub(crate) fn home(&self) -> &Home {
+        &self.shared.home
     }
 
     /// Whether requests are logged.
@@ -280,9 +295,26 @@ impl<R: Clock + Eprint + Copy + Drop> Log<R> {
         self.end_line();
     }
 
+    /// Has the server end, as nothing more can be kept: its door gives no more connections, and
+    /// each connection ends behind what was answered.
+    pub fn shut(&self) {
+        self.doorway().shut();
+    }
+
     /// What is known of the listening socket.
     pub(crate) fn doorway(&self) -> &Doorway {
         &self.shared.doorway
+    }
+
+    /// Notes a connection that this program has opened to another host, for as long as what comes
+    /// back is kept. What comes in over it is ended unread.
+    pub fn note_call(&self, stream: &TcpStream) -> Option<OwnCall> {
+        OwnCall::new(&self.shared.calls, stream)
+    }
+
+    /// Whether a connection that came in from this address was opened by this program itself.
+    pub(crate) fn is_own_call(&self, stream: &TcpStream, peer: SocketAddr) -> bool {
+        self.shared.calls.lead_back(stream, peer)
     }
 
     /// Says that a client waits while all workers are busy, once a minute at most.
@@ -308,10 +340,23 @@ impl<R: Clock + Eprint + Copy + Drop> Log<R> {
         }
     }
 
+    /// The line for the accepted request of a number, and why it was refused.
+    fn line_for_run(
+        &self,
+        number: u64,
+        request: &Request,
+        reply: &Reply,
+    ) -> Result<String, OutOfMemory> {
+        let line = line_of_run(self.alloc, number, request, reply)?;
+        let copy = request.copy(self.alloc)?;
+        let why = why_refused_in(self.alloc, self.home(), copy, reply.parts().rsc)?;
+        with_reason(self.alloc, line, why)
+    }
+
     /// Says that the accepted request of a number was run, where requests are logged.
     pub fn say_run(&self, number: u64, request: &Request, reply: &Reply) {
         if self.has_requests()
-            && let Ok(line) = line_of_run(self.alloc, number, request, reply)
+            && let Ok(line) = self.line_for_run(number, request, reply)
         {
             self.tell(line.as_str());
         }

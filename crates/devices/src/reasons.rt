@@ -1,160 +1,128 @@
-//! Why a request was refused, where its reply and the request itself tell it for certain.
+//! Why a request was refused, as a line of the log says it.
 //!
-//! The machine answers a refusal with a status code alone. So a content that was answered as a bad
-//! request is looked at once more, by the rules that refuse it there, where nothing before the
-//! content can be the reason.
-use crate::replies::named;
-use attribute_rules::{AttrFault, admit_create};
-use filter_criteria::FilterUsage;
+//! The machine answers a refusal with a status code alone. What may be why is told by the message,
+//! the status and the home, as the crate `refusal_reasons` has it.
 use http_binding::to_request;
-use http_frames::Frame;
-use m2m_names::{Attr, Op, Rsc, Ty};
-use m2m_value::{MemberKey, Val};
-use primitive_json::RequestParts;
+use http_frames::{Frame, is_same_name};
+use http_target::BindFault;
+use m2m_names::Rsc;
+use m2m_value::{ValFault, read};
+use primitive_json::{PrimFault, Request, request_from};
+use refusal_reasons::{reason_of, reason_of_binding, reason_of_member, words_of_value};
+use resource_model::Home;
 use std::alloc::{AllocError, Global};
+use std::str;
 
-/// An address that is no longer than this is read.
-const LONGEST_ADDRESS: usize = 512;
+/// The least number of a status that refuses.
+const LEAST_REFUSAL: u16 = 4_000;
 
-/// An originator that is no longer than this is one.
-const LONG_ORIGINATOR: usize = 64;
+/// The body of a message has at most so many bytes.
+const BODY_LIMIT: u64 = 65_536;
 
-/// Whether a part of an address is a name without escapes, and no fan-out point.
-fn is_plain(segment: &[u8]) -> bool {
-    !segment.is_empty()
-        && segment != b"fopt".as_slice()
-        && segment.iter().all(|byte| byte.is_ascii_alphanumeric()
-            || matches!(*byte, b'-' | b'.' | b'_'))
+/// The number that the digits in a text make.
+fn number_in(text: &[u8]) -> u64 {
+    let mut number = 0u64;
+    for byte in text {
+        if byte.is_ascii_digit() {
+            number = number
+                .saturating_mul(10)
+                .saturating_add(byte.wrapping_sub(b'0') as u64);
+        }
+    }
+    number
 }
 
-/// Whether an address names a resource of this CSE by its parts, none of them a fan-out point.
-fn names_here(to: &[u8]) -> bool {
-    to.len() <= LONGEST_ADDRESS && !to.split(|byte| *byte == b'/').any(|part| !is_plain(part))
-}
-
-/// Whether a request is heard for certain: it says who asks in letters and digits, and wants
-/// nothing of when and how it is answered.
-fn is_heard(request: &RequestParts) -> bool {
-    let RequestParts {
-        fr,
-        rqet: None,
-        rt: None,
-        rcn: None,
-        fc: None,
-        drt: None,
-        ..
-    } = request
-    else {
-        return false;
-    };
-    match fr {
-        Some(fr) => {
-            let fr = fr.entries();
-            !fr.is_empty()
-                && fr.len() <= LONG_ORIGINATOR
-                && fr.iter().all(|byte| byte.is_ascii_alphanumeric())
+/// Whether a line of a head says that the body is longer than it may be.
+fn is_too_long(line: &[u8]) -> bool {
+    match line.iter().position(|byte| *byte == b':') {
+        Some(colon) => {
+            let (name, value) = line.split_at(colon);
+            is_same_name(name, b"Content-Length") && number_in(value) > BODY_LIMIT
         }
         None => false,
     }
 }
 
-/// The only member of an object.
-fn sole(content: &Val) -> Option<&(MemberKey, Val)> {
-    match content.as_obj()?.entries() {
-        [entry] => Some(entry),
-        _ => None,
+/// Whether a line ends a head.
+fn is_blank(line: &[u8]) -> bool {
+    line.is_empty() || line == b"\r".as_slice()
+}
+
+/// What the front of what was read is, where no message stands there.
+pub(crate) fn why_none(heard: &[u8]) -> &'static str {
+    for line in heard.split(|byte| *byte == b'\n') {
+        if is_blank(line) {
+            return "no message";
+        }
+        if is_too_long(line) {
+            return "no message, its body is longer than 65,536 bytes";
+        }
+    }
+    "no message"
+}
+
+/// Why a payload is no request.
+#[derive(Drop)]
+pub(crate) enum Unread {
+    Value(ValFault),
+    Member(PrimFault),
+}
+
+/// The request that a payload is, or why it is none.
+pub(crate) fn payload_request(alloc: Global, payload: &[u8]) -> Result<Request, Unread> {
+    match read(alloc, payload) {
+        Ok(value) => request_from(alloc, value).map_err(Unread::Member),
+        Err(fault) => Err(Unread::Value(fault)),
     }
 }
 
-/// Whether a request changes `acpi` alone.
-fn changes_acpi(request: &RequestParts) -> bool {
-    let Some(content) = &request.pc else {
-        return false;
+/// A text that is told; none where nothing is.
+fn told(alloc: Global, text: &[u8]) -> Result<Option<String>, AllocError> {
+    match str::from_utf8(text) {
+        Ok(text) if !text.is_empty() => Ok(Some(String::from_str(alloc, text)?)),
+        _ => Ok(None),
+    }
+}
+
+/// Why a message of HTTP is no request.
+pub(crate) fn why_unbound(alloc: Global, fault: &BindFault) -> Result<Option<String>, AllocError> {
+    told(alloc, &reason_of_binding(alloc, fault)?)
+}
+
+/// Why a payload is no request.
+pub(crate) fn why_unread(alloc: Global, fault: &Unread) -> Result<String, AllocError> {
+    let why = match fault {
+        Unread::Value(fault) => told(alloc, words_of_value(*fault).as_bytes())?,
+        Unread::Member(fault) => told(alloc, &reason_of_member(alloc, fault)?)?,
     };
-    match sole(content).and_then(|entry| sole(&entry.1)) {
-        Some(entry) => entry.0.entries() == Attr::Acpi.short().as_bytes(),
-        None => false,
-    }
+    Ok(why.unwrap_or(String::new(alloc)))
 }
 
-/// The right that a request needs on its target (TS-0001, 9.6.2.3).
-fn right_for(request: &RequestParts) -> &'static str {
-    match request.op {
-        Op::Create if request.ty == Some(Ty::Subscription.number()) => "CREATE with RETRIEVE",
-        Op::Create => "CREATE",
-        Op::Retrieve => match &request.fc {
-            Some(filter) if filter.parts().fu == Some(FilterUsage::Discovery) => "DISCOVERY",
-            _ => "RETRIEVE",
-        },
-        Op::Update if changes_acpi(request) => "right to change acpi",
-        Op::Update => "UPDATE",
-        Op::Delete => "DELETE",
-        Op::Notify => "NOTIFY",
-    }
-}
-
-/// What is wrong with the attributes that a Create names, where something is.
-fn content_fault(alloc: Global, request: RequestParts) -> Option<AttrFault> {
-    let RequestParts { op, ty, pc, .. } = request;
-    let content = pc?;
-    let ty = Ty::from_number(ty?)?;
-    match op {
-        Op::Create => admit_create(alloc, ty, content).err(),
-        Op::Retrieve | Op::Update | Op::Delete | Op::Notify => None,
-    }
-}
-
-/// What is wrong with attributes, in words.
-fn why_of_content(alloc: Global, fault: &AttrFault) -> Result<String, AllocError> {
-    match fault {
-        AttrFault::Shape => String::from_str(alloc, "content that is no resource of the type"),
-        AttrFault::Unknown(name) => named(alloc, "unknown", name.entries()),
-        AttrFault::NotAllowed(attr) => named(alloc, "not allowed", attr.short().as_bytes()),
-        AttrFault::Kind(attr) => named(alloc, "value of", attr.short().as_bytes()),
-        AttrFault::Missing(attr) => named(alloc, "missing", attr.short().as_bytes()),
-        AttrFault::AcpiNotAlone => String::from_str(alloc, "acpi beside others"),
-        AttrFault::OutOfMemory => String::from_str(alloc, "no memory for the content"),
-    }
-}
-
-/// Whether the reason of such a reply can be told.
-fn is_told(code: Rsc) -> bool {
-    code == Rsc::NoPrivilege || code == Rsc::BadRequest
-}
-
-/// Why the request in a message is answered so, where that is certain.
+/// Why the request in a message is refused with a status, where that is told.
 pub(crate) fn why_refused(
     alloc: Global,
+    home: &Home,
     frame: &Frame,
     code: Rsc,
 ) -> Result<Option<String>, AllocError> {
-    if !is_told(code) {
+    if code.number() < LEAST_REFUSAL {
         return Ok(None);
     }
     match to_request(alloc, frame) {
-        Ok(request) => why_refused_in(alloc, request.into_parts(), code),
+        Ok(request) => why_refused_in(alloc, home, request, code),
         Err(_) => Ok(None),
     }
 }
 
-/// Why a request is answered so, where that is certain.
+/// Why a request is refused with a status, where that is told.
 pub(crate) fn why_refused_in(
     alloc: Global,
-    request: RequestParts,
+    home: &Home,
+    request: Request,
     code: Rsc,
 ) -> Result<Option<String>, AllocError> {
-    if !is_told(code) || !names_here(request.to.entries()) {
+    if code.number() < LEAST_REFUSAL {
         return Ok(None);
     }
-    if code == Rsc::NoPrivilege {
-        let right = right_for(&request);
-        return Ok(Some(format!(in alloc; "no {right}")?));
-    }
-    if !is_heard(&request) {
-        return Ok(None);
-    }
-    match content_fault(alloc, request) {
-        Some(fault) => Ok(Some(why_of_content(alloc, &fault)?)),
-        None => Ok(None),
-    }
+    told(alloc, &reason_of(alloc, home, request, code)?)
 }

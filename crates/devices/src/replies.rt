@@ -1,9 +1,7 @@
-//! What a line says of a message, and of why it is no request.
+//! What a line says of a message.
 use crate::printing::printable;
 use http_frames::{Found, Frame, Start};
-use http_target::BindFault;
 use m2m_names::Op;
-use m2m_value::ValFault;
 use primitive_json::{Reply, Request};
 use std::alloc::{AllocError, Global};
 
@@ -39,33 +37,18 @@ pub(crate) fn operation_of(op: Op) -> &'static str {
     }
 }
 
-/// A word, and the name of a part of a message.
-pub(crate) fn named(alloc: Global, word: &str, name: &[u8]) -> Result<String, AllocError> {
-    let name = printable(alloc, name)?;
-    let name = name.as_str();
-    format!(in alloc; "{word} {name}")
-}
-
-/// Why a body is no content.
-fn why_of_body(fault: ValFault) -> &'static str {
-    match fault {
-        ValFault::NotJson => "body that is no JSON",
-        ValFault::TooWide => "body with a number from 2^63",
-        ValFault::Fraction => "body with a fraction",
-        ValFault::OutOfMemory => "no memory for the body",
-    }
-}
-
-/// Why a message is no request.
-pub(crate) fn why_of(alloc: Global, fault: &BindFault) -> Result<String, AllocError> {
-    match fault {
-        BindFault::Header(name) => named(alloc, "header", name.entries()),
-        BindFault::Missing(name) => named(alloc, "missing", name.entries()),
-        BindFault::Query(name) => named(alloc, "query", name.entries()),
-        BindFault::Body(fault) => String::from_str(alloc, why_of_body(*fault)),
-        BindFault::Method | BindFault::Target | BindFault::OutOfMemory => format!(in alloc;
-            "{fault}"
-        ),
+/// A line, and why behind it.
+pub(crate) fn with_reason(
+    alloc: Global,
+    line: String,
+    why: Option<String>,
+) -> Result<String, AllocError> {
+    match why {
+        Some(why) => {
+            let (line, why) = (line.as_str(), why.as_str());
+            format!(in alloc; "{line} {why}")
+        }
+        None => Ok(line),
     }
 }
 
