@@ -18,8 +18,7 @@ silence = 60000
 abbrev pub is_due : ℕ → ℕ → ℕ → Bool
 is_due failed silent_until now = nat_lt 0 failed && nat_le silent_until now
 
--- Something is still to be known of a destination: that it is left alone, or was before, that it
--- has faults to be said, or that none may be said yet.
-abbrev pub matters : ℕ → ℕ → ℕ → ℕ → Bool
-matters wait failed silent_until now =
+-- A destination is left alone, or was before, or has faults to be said, or none may be said yet.
+abbrev pub has_failed : ℕ → ℕ → ℕ → ℕ → Bool
+has_failed wait failed silent_until now =
     nat_lt 0 wait || nat_lt 0 failed || nat_lt now silent_until

@@ -1,3 +1,5 @@
 pub mod Failing
+pub mod Paces
 pub mod SendOutcomes
+pub mod Spending
 pub mod Places

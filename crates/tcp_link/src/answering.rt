@@ -1,15 +1,16 @@
 //! One request over a connection, and its answer.
 ghost use Rattle.std.specs.Prelude.{◌≡◌, ◌≤◌, IfOk, length};
 ghost use Rattle.tcp_link.specs.SendOutcomes.{HasFew};
+ghost use Rattle.tcp_link.specs.Paces as paces;
 ghost use Rattle.std.specs.Io.{ReadsAtMost};
 
+use crate::connecting::Call;
 use devices::time_left;
 use http_frames::{Found, Frame, FrameFault, Inbox, Lines, Next, Start};
 use m2m_io::{Failed, Source};
 use std::alloc::{AllocError, Global};
 use std::io;
 use std::io::{ErrorKind, Read, Write};
-use std::net::TcpStream;
 use std::time::{Clock, Duration};
 
 /// So many milliseconds the other side may say nothing, and take nothing. All addresses of a host
@@ -21,6 +22,12 @@ pub const LONGEST: u64 = 15_000;
 
 /// So many milliseconds an exchange of an impatient link takes at most, once its host is looked up.
 pub const SHORT_PATIENCE: u64 = 1_500;
+
+/// So many milliseconds an answer takes at most of a host that was mute or slow the last time,
+const BRIEF: u64 = 100;
+
+/// and so many to connect to it.
+const BRIEF_TO_CONNECT: u64 = 500;
 
 /// So many milliseconds it takes at most to send a request whose answer isn't waited for.
 const SENDING: u64 = 250;
@@ -38,6 +45,8 @@ pub(crate) enum Pace {
     Patient,
     /// `SHORT_PATIENCE` for all of it.
     Impatient,
+    /// `BRIEF_TO_CONNECT` to connect, and then `BRIEF` for all of it.
+    Brief,
     /// `SENDING` for what the other side takes, and nothing for what it says.
     AtOnce,
 }
@@ -45,22 +54,34 @@ pub(crate) enum Pace {
 impl Pace {
     /// So many milliseconds the other side may say or take nothing.
     pub(crate) fn of_a_step(self) -> u64
-        ensures { result ≤ PATIENCE }
+        ensures { result ≡ paces.of_a_step self }
     {
         match self {
             Pace::Patient => PATIENCE,
             Pace::Impatient => SHORT_PATIENCE,
+            Pace::Brief => BRIEF,
             Pace::AtOnce => SENDING,
+        }
+    }
+
+    /// So many milliseconds all addresses of a host are tried.
+    pub(crate) fn of_connecting(self) -> u64
+        ensures { result ≡ paces.of_connecting self }
+    {
+        match self {
+            Pace::Brief => BRIEF_TO_CONNECT,
+            Pace::Patient | Pace::Impatient | Pace::AtOnce => self.of_a_step(),
         }
     }
 
     /// So many milliseconds an exchange takes at most.
     fn of_all(self) -> u64
-        ensures { result ≤ LONGEST }
+        ensures { result ≡ paces.of_all self }
     {
         match self {
             Pace::Patient => LONGEST,
             Pace::Impatient => SHORT_PATIENCE,
+            Pace::Brief => BRIEF,
             Pace::AtOnce => SENDING,
         }
     }
@@ -97,14 +118,14 @@ pub(crate) enum SendOutcome {
     /// The beginning of one, which wasn't whole in time.
     Part,
     /// Nothing yet, at this connection.
-    Nothing(TcpStream),
+    Nothing(Call),
 }
 
 /// A connection at which one request is sent and one answer is read: the bytes that came are kept.
 #[derive(Drop)]
 pub(crate) struct ExchangeConn<R> {
     rt: R,
-    stream: TcpStream,
+    call: Call,
     pace: Pace,
     /// The moment at which the exchange began, in milliseconds.
     begun: u64,
@@ -131,7 +152,7 @@ fn next_patience<R: Clock>(rt: &R, begun: u64, pace: Pace) -> io::Result<Duratio
 /// Reads, again where the system broke a read off.
 fn read_in_time<R: Clock>(
     rt: &R,
-    stream: &mut TcpStream,
+    call: &mut Call,
     begun: u64,
     pace: Pace,
     buf: &mut [u8],
@@ -139,8 +160,9 @@ fn read_in_time<R: Clock>(
     ensures { ReadsAtMost result buf.new }
 {
     for _ in 0..u64::MAX {
-        stream.set_read_timeout(Some(next_patience(rt, begun, pace)?))?;
-        match stream.read(buf) {
+        call.stream
+            .set_read_timeout(Some(next_patience(rt, begun, pace)?))?;
+        match call.stream.read(buf) {
             Ok(n) => return Ok(n),
             Err(error) if error.kind() == ErrorKind::Interrupted => {}
             Err(error) => return Err(error),
@@ -152,7 +174,7 @@ fn read_in_time<R: Clock>(
 /// Writes all of it.
 fn write_in_time<R: Clock>(
     rt: &R,
-    stream: &mut TcpStream,
+    call: &mut Call,
     begun: u64,
     pace: Pace,
     bytes: &[u8],
@@ -162,8 +184,9 @@ fn write_in_time<R: Clock>(
         if rest.is_empty() {
             return Ok(());
         }
-        stream.set_write_timeout(Some(next_patience(rt, begun, pace)?))?;
-        match stream.write(rest) {
+        call.stream
+            .set_write_timeout(Some(next_patience(rt, begun, pace)?))?;
+        match call.stream.write(rest) {
             Ok(0) => return Err(io::Error::from(ErrorKind::WriteZero)),
             Ok(n) => rest = rest.split_at(n.min(rest.len())).1,
             Err(error) if error.kind() == ErrorKind::Interrupted => {}
@@ -218,10 +241,10 @@ impl<R: Clock + Copy> Source for ExchangeConn<R> {
 
 impl<R: Clock + Copy> ExchangeConn<R> {
     /// A connection on which nothing was said yet, in an exchange that began at this moment.
-    pub(crate) fn new(rt: R, alloc: Global, stream: TcpStream, pace: Pace, begun: u64) -> Self {
+    pub(crate) fn new(rt: R, alloc: Global, call: Call, pace: Pace, begun: u64) -> Self {
         ExchangeConn {
             rt,
-            stream,
+            call,
             pace,
             begun,
             heard: Vec::new(alloc),
@@ -245,7 +268,7 @@ impl<R: Clock + Copy> ExchangeConn<R> {
         ensures bound { ReadsAtMost result buf.new }
         ensures faults { self.new.faults ≡ self.old.faults }
     {
-        match read_in_time(&self.rt, &mut self.stream, self.begun, self.pace, buf) {
+        match read_in_time(&self.rt, &mut self.call, self.begun, self.pace, buf) {
             Ok(n) => {
                 self.keep(&buf[..n])?;
                 Ok(n)
@@ -283,7 +306,7 @@ impl<R: Clock + Copy> ExchangeConn<R> {
 
     /// Sends the request.
     fn send(&mut self, request: &[u8]) -> Result<(), ExchangeFault> {
-        match write_in_time(&self.rt, &mut self.stream, self.begun, self.pace, request) {
+        match write_in_time(&self.rt, &mut self.call, self.begun, self.pace, request) {
             Ok(()) => Ok(()),
             Err(error) => Err(fault_of(&error)),
         }
@@ -322,27 +345,27 @@ impl<R: Clock + Copy> ExchangeConn<R> {
     fn heard_in_part(self) -> SendOutcome
         ensures { HasFew result }
     {
-        let (heard, stream) = self.into_parts();
+        let (heard, call) = self.into_parts();
         if heard.is_empty() {
-            SendOutcome::Nothing(stream)
+            SendOutcome::Nothing(call)
         } else {
             SendOutcome::Part
         }
     }
 
     /// The bytes that came, and the connection.
-    fn into_parts(self) -> (Vec<u8>, TcpStream)
+    fn into_parts(self) -> (Vec<u8>, Call)
         ensures { length result.0.items ≤ MOST_BYTES }
     {
         let ExchangeConn {
             rt: _,
-            stream,
+            call,
             pace: _,
             begun: _,
             heard,
             fault: _,
             faults: _,
         } = self;
-        (heard, stream)
+        (heard, call)
     }
 }

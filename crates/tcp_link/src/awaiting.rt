@@ -3,13 +3,15 @@ ghost use Rattle.std.specs.Prelude.{◌≡◌, min, nat_le};
 ghost use Rattle.tcp_link.specs.Failing.{later};
 
 use crate::answering::PATIENCE;
-use crate::connecting::HostPort;
+use crate::connecting::{Call, HostPort};
 use std::alloc::{AllocError as OutOfMemory, Global};
 use std::io::{ErrorKind, Read};
-use std::net::TcpStream;
 
 /// At most so many answers of one destination are awaited,
 const MOST_OF_ONE: usize = 8;
+
+/// so many of one that is slow and has answered,
+const MOST_OF_A_SLOW_ONE: usize = 64;
 
 /// and so many of all.
 const MOST_AWAITED: usize = 256;
@@ -31,11 +33,11 @@ pub(crate) enum Fate {
 }
 
 /// A request that was sent, and not answered yet when it was looked at last.
-#[derive(Debug, Drop)]
+#[derive(Drop)]
 pub(crate) struct Awaited {
     name: String,
     port: u16,
-    stream: TcpStream,
+    call: Call,
     /// The moment from which on its answer is awaited, in milliseconds.
     since: u64,
     fate: Fate,
@@ -46,13 +48,13 @@ impl Awaited {
     fn new(
         alloc: Global,
         host_port: HostPort,
-        stream: TcpStream,
+        call: Call,
         since: u64,
     ) -> Result<Self, OutOfMemory> {
         Ok(Awaited {
             name: String::from_str(alloc, host_port.name)?,
             port: host_port.port,
-            stream,
+            call,
             since,
             fate: Fate::Open,
         })
@@ -90,7 +92,7 @@ impl Awaited {
     /// Looks what has come of it, without waiting.
     fn look(&mut self, now: u64) {
         let mut buf = [0u8; PIECE];
-        self.fate = match self.stream.read(&mut buf) {
+        self.fate = match self.call.stream.read(&mut buf) {
             Ok(0) => Fate::Ended,
             Ok(_) => Fate::Answered,
             Err(error) if error.kind() != ErrorKind::WouldBlock => Fate::Ended,
@@ -101,7 +103,7 @@ impl Awaited {
 }
 
 /// The answers that are awaited, those that are awaited longest first.
-#[derive(Debug, Drop)]
+#[derive(Drop)]
 pub(crate) struct Awaiting {
     list: Vec<Awaited>,
 }
@@ -127,9 +129,17 @@ impl Awaiting {
         self.count_at(host_port) > 0
     }
 
-    /// Whether as many answers of this host are awaited as may be.
-    pub(crate) fn is_full_at(&self, host_port: HostPort) -> bool {
-        self.count_at(host_port) >= MOST_OF_ONE
+    /// Whether as many answers of this host are awaited as may be, of one that is slow and has
+    /// answered, or of another one. Where half of all places are taken, that is one of each other.
+    pub(crate) fn is_full_at(&self, host_port: HostPort, has_answered: bool) -> bool {
+        let most = if has_answered {
+            MOST_OF_A_SLOW_ONE
+        } else if self.list.len() < MOST_AWAITED / 2 {
+            MOST_OF_ONE
+        } else {
+            1
+        };
+        self.count_at(host_port) >= most
     }
 
     /// Awaits an answer of this host from this moment on, at a connection. Tells whether there is
@@ -138,13 +148,13 @@ impl Awaiting {
         &mut self,
         alloc: Global,
         host_port: HostPort,
-        stream: TcpStream,
+        call: Call,
         since: u64,
     ) -> bool {
-        if self.list.len() >= MOST_AWAITED || stream.set_nonblocking(true).is_err() {
+        if self.list.len() >= MOST_AWAITED || call.stream.set_nonblocking(true).is_err() {
             return false;
         }
-        match Awaited::new(alloc, host_port, stream, since) {
+        match Awaited::new(alloc, host_port, call, since) {
             Ok(one) => self.list.push(one).is_ok(),
             Err(_) => false,
         }

@@ -2,18 +2,14 @@
 ghost use Rattle.std.specs.Prelude.{◌≡◌, ◌≤◌, ◌<◌, IsNone, Some};
 ghost use Rattle.tcp_link.specs.Places.{usual_port};
 
-use devices::time_left;
-use std::alloc::Global;
-use std::io::ErrorKind;
-use std::net::{Net, SocketAddr, TcpListener, TcpStream, ToSocketAddrs};
+use devices::{Log, OwnCall, time_left};
+use std::io::{Eprint, ErrorKind};
+use std::net::{Net, SocketAddr, TcpListener, TcpStream};
 use std::time::{Clock, Duration};
 use std::{io, str};
 
 /// The port of a URL that names none.
 const USUAL_PORT: u16 = 80;
-
-/// At most so many addresses of a host are tried.
-const MOST_TRIED: usize = 4;
 
 /// A host and a port.
 #[derive(Clone, Copy, Debug)]
@@ -26,6 +22,22 @@ impl HostPort<'_> {
     /// Whether that is the same host and port.
     pub(crate) fn is_at(self, host_port: HostPort) -> bool {
         self.port == host_port.port && self.name.eq_ignore_ascii_case(host_port.name)
+    }
+}
+
+/// A connection that was opened. For as long as it is open, what comes back over it is ended.
+#[derive(Drop)]
+pub(crate) struct Call {
+    pub stream: TcpStream,
+    /// How it is noted.
+    note: Option<OwnCall>,
+}
+
+impl Call {
+    /// Notes this connection.
+    fn new<R: Clock + Eprint + Copy>(log: &Log<R>, stream: TcpStream) -> Self {
+        let note = log.note_call(&stream);
+        Call { stream, note }
     }
 }
 
@@ -56,21 +68,6 @@ fn unreachable_host() -> io::Error {
     io::Error::from(ErrorKind::HostUnreachable)
 }
 
-/// The addresses of a host, by the system's resolver.
-pub(crate) fn addresses<R: Net>(
-    rt: &R,
-    alloc: Global,
-    host_port: HostPort,
-) -> io::Result<Vec<SocketAddr>> {
-    let mut found = Vec::new(alloc);
-    for address in (host_port.name, host_port.port).to_socket_addrs(rt)? {
-        if found.len() < MOST_TRIED {
-            found.push(address)?;
-        }
-    }
-    Ok(found)
-}
-
 /// An equal share of what is left of so many milliseconds since this moment, for so many tries.
 fn share_of<R: Clock>(rt: &R, begun: u64, patience: u64, tries: usize) -> io::Result<Duration>
     requires { 0 < tries }
@@ -90,19 +87,20 @@ fn is_late(error: &io::Error) -> bool {
 /// many milliseconds since this moment. Where none does, the error says so if one of them was
 /// mute.
 pub(crate) fn connected<R>(
-    rt: &R,
+    log: &Log<R>,
     found: &[SocketAddr],
     begun: u64,
     patience: u64,
-) -> io::Result<TcpStream>
+) -> io::Result<Call>
 where
-    R: Net<Listener = TcpListener, Stream = TcpStream> + Clock,
+    R: Net<Listener = TcpListener, Stream = TcpStream> + Clock + Eprint + Copy,
 {
+    let rt = log.runtime();
     let mut last = unreachable_host();
     for (i, address) in found.iter().enumerate() {
-        let share = share_of(rt, begun, patience, found.len() - i)?;
-        match TcpStream::connect_timeout(rt, address, share) {
-            Ok(stream) => return Ok(stream),
+        let share = share_of(&rt, begun, patience, found.len() - i)?;
+        match TcpStream::connect_timeout(&rt, address, share) {
+            Ok(stream) => return Ok(Call::new(log, stream)),
             Err(error) if !is_late(&last) => last = error,
             Err(_) => {}
         }

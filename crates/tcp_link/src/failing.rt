@@ -1,6 +1,6 @@
 //! Destinations at which exchanges failed.
-ghost use Rattle.std.specs.Prelude.{◌≡◌, ◌<◌, ◌≤◌, ◌+◌, ◌-◌, ◌^◌, min, nat_lt, true, false, Some};
-ghost use Rattle.std.specs.Prelude.{None, IfSome, vec_len, if◌then◌else◌};
+ghost use Rattle.std.specs.Prelude.{◌≡◌, ◌<◌, ◌≤◌, ◌+◌, ◌-◌, ◌^◌, ◌||◌, min, nat_lt, true, false};
+ghost use Rattle.std.specs.Prelude.{Some, None, IfSome, vec_len, if◌then◌else◌};
 ghost use Rattle.tcp_link.specs.Failing as spec;
 
 use crate::connecting::HostPort;
@@ -27,6 +27,10 @@ pub(crate) struct Destination {
     wait: u64,
     /// Until this moment it is left alone.
     until: u64,
+    /// It took long the last time that it was waited for.
+    is_slow: bool,
+    /// It has answered since it was mute last.
+    has_answered: bool,
     /// How many exchanges failed that weren't said yet.
     failed: u64,
     /// Before this moment nothing more is said of it.
@@ -48,6 +52,8 @@ impl Destination {
             port: host_port.port,
             wait: 0,
             until: 0,
+            is_slow: false,
+            has_answered: false,
             failed: 0,
             silent_until: 0,
         })
@@ -79,6 +85,20 @@ impl Destination {
         now < self.until
     }
 
+    /// Whether it gave no answer the last time that one was waited for to the end.
+    fn is_mute(&self) -> bool
+        ensures { result ≡ nat_lt 0 self.now.wait }
+    {
+        self.wait > 0
+    }
+
+    /// Whether it was mute or slow the last time.
+    fn takes_long(&self) -> bool
+        ensures { result ≡ (nat_lt 0 self.now.wait || self.now.is_slow) }
+    {
+        self.wait > 0 || self.is_slow
+    }
+
     /// Counts an exchange that failed.
     fn count(&mut self)
         ensures { self.new ≡ record self.old { failed = min (self.old.failed + 1) (2 ^ 64 - 1) } }
@@ -89,18 +109,47 @@ impl Destination {
     /// Leaves it alone for a while, since it was mute at this moment.
     fn leave_alone(&mut self, now: u64)
         ensures { let wait = spec.next_wait self.old.wait in
-            self.new ≡ record self.old { wait = wait; until = spec.later now wait } }
+            self.new ≡ record self.old {
+              wait = wait;
+              until = spec.later now wait;
+              has_answered = false;
+            } }
     {
+        self.has_answered = false;
         self.wait = next_wait(self.wait);
         self.until = now.saturating_add(self.wait);
     }
 
     /// It isn't mute.
-    fn welcome(&mut self)
+    fn hear(&mut self)
         ensures { self.new ≡ record self.old { wait = 0; until = 0 } }
     {
         self.wait = 0;
         self.until = 0;
+    }
+
+    /// It has answered, late.
+    fn note_late(&mut self)
+        ensures { self.new ≡ record self.old { wait = 0; until = 0; has_answered = true } }
+    {
+        self.hear();
+        self.has_answered = true;
+    }
+
+    /// It has answered soon: it is neither mute nor slow.
+    fn welcome(&mut self)
+        ensures { self.new
+            ≡ record self.old { wait = 0; until = 0; is_slow = false; has_answered = true } }
+    {
+        self.note_late();
+        self.is_slow = false;
+    }
+
+    /// It is slow.
+    fn find_slow(&mut self)
+        ensures { self.new ≡ record self.old { is_slow = true } }
+    {
+        self.is_slow = true;
     }
 
     /// How many exchanges failed that weren't said, where that may be said at this moment.
@@ -132,7 +181,16 @@ impl Destination {
 
     /// Whether something is still to be known of it.
     fn matters(&self, now: u64) -> bool
-        ensures { result ≡ spec.matters self.now.wait self.now.failed self.now.silent_until now }
+        ensures { result ≡ (self.now.is_slow
+            || spec.has_failed self.now.wait self.now.failed self.now.silent_until now) }
+    {
+        self.is_slow || self.has_failed(now)
+    }
+
+    /// Whether it is left alone, or was before, or has failed lately.
+    fn has_failed(&self, now: u64) -> bool
+        ensures { result
+            ≡ spec.has_failed self.now.wait self.now.failed self.now.silent_until now }
     {
         self.wait > 0 || self.failed > 0 || now < self.silent_until
     }
@@ -158,13 +216,57 @@ impl Failing {
             && destination.is_left_alone(now))
     }
 
+    /// Whether this host gave no answer the last time that one was waited for to the end.
+    pub(crate) fn is_mute(&self, host_port: HostPort) -> bool {
+        self.list.iter().any(|destination| destination.is_at(host_port) && destination.is_mute())
+    }
+
+    /// Whether this host was mute or slow the last time.
+    pub(crate) fn takes_long(&self, host_port: HostPort) -> bool {
+        self.list.iter().any(|destination| destination.is_at(host_port) && destination.takes_long())
+    }
+
+    /// Whether this host is remembered and has answered since it was mute last.
+    pub(crate) fn has_answered(&self, host_port: HostPort) -> bool {
+        self.list.iter().any(|destination| destination.is_at(host_port) && destination.has_answered)
+    }
+
     /// This host isn't mute: it isn't left alone any longer.
+    fn hear(&mut self, host_port: HostPort) {
+        for destination in &mut self.list {
+            if destination.is_at(host_port) {
+                destination.hear();
+            }
+        }
+    }
+
+    /// This host has answered late: it isn't left alone any longer.
+    pub(crate) fn note_late(&mut self, host_port: HostPort) {
+        for destination in &mut self.list {
+            if destination.is_at(host_port) {
+                destination.note_late();
+            }
+        }
+    }
+
+    /// This host has answered soon: it is neither left alone any longer, nor slow.
     pub(crate) fn welcome(&mut self, host_port: HostPort) {
         for destination in &mut self.list {
             if destination.is_at(host_port) {
                 destination.welcome();
             }
         }
+    }
+
+    /// This host took long. A destination of which nothing more is remembered comes back.
+    pub(crate) fn find_slow(&mut self, alloc: Global, host_port: HostPort) -> Option<Destination> {
+        let oldest = self.remember(alloc, host_port);
+        for destination in &mut self.list {
+            if destination.is_at(host_port) {
+                destination.find_slow();
+            }
+        }
+        oldest
     }
 
     /// Remembers this host, if there is memory. The destination that has to make room for it comes
@@ -203,7 +305,7 @@ impl Failing {
     /// Counts an exchange that this host refused, or broke off: it isn't mute. A destination of
     /// which nothing more is remembered comes back.
     pub(crate) fn refuse(&mut self, alloc: Global, host_port: HostPort) -> Option<Destination> {
-        self.welcome(host_port);
+        self.hear(host_port);
         self.count(alloc, host_port)
     }
 
@@ -227,6 +329,14 @@ impl Failing {
     /// Forgets the destinations of which nothing is to be known any more.
     pub(crate) fn tidy(&mut self, now: u64) {
         self.list.retain(|destination| destination.matters(now));
+    }
+
+    /// How many destinations have failed lately.
+    pub(crate) fn count_failed(&self, now: u64) -> usize {
+        self.list
+            .iter()
+            .filter(|destination| destination.has_failed(now))
+            .count()
     }
 
     /// The destinations, to say their faults.

@@ -7,19 +7,29 @@ ghost use Rattle.tcp_link.specs.SendOutcomes.{HasFew};
 ghost use Rattle.m2m_io.specs.declared.fault.LinkFault.TheVariants.{Failed as failed};
 ghost use Rattle.m2m_io.specs.declared.fault.LinkFault.TheVariants.{OutOfMemory as starved};
 
-use crate::answering::{ExchangeConn, ExchangeFault, MOST_BYTES, Pace, SendOutcome, fault_of};
+use crate::answering::{
+    ExchangeConn, ExchangeFault, MOST_BYTES, Pace, SHORT_PATIENCE, SendOutcome, fault_of,
+};
 use crate::awaiting::{Awaiting, Fate};
-use crate::connecting::{HostPort, addresses, connected, host_port_of};
+use crate::connecting::{Call, HostPort, connected, host_port_of};
 use crate::failing::{Destination, Failing};
-use devices::{Log, millis_now, time_left};
+use crate::names::Names;
+use crate::spending::Spending;
+use devices::{Log, millis_now};
 use m2m_io::{Link, LinkFault};
 use primitive_json::Request;
 use service_observer::ItemObserver;
 use std::alloc::{AllocError, Global};
-use std::io;
-use std::io::{Eprint, ErrorKind};
-use std::net::{Net, TcpListener, TcpStream};
-use std::time::Clock;
+use std::io::Eprint;
+use std::net::{Net, SocketAddr, TcpListener, TcpStream};
+use std::thread::Threads;
+use std::time::{Clock, Duration};
+
+/// An exchange that took more milliseconds than these was slow.
+const SLOW: u64 = 500;
+
+/// Who waits until one answer less is awaited sees so often whether one has come, in milliseconds.
+const PAUSE: u64 = 5;
 
 /// A link over TCP. It tells nothing of what it exchanges. A host that it can't connect to, that
 /// says nothing for too long, or that gives no answer at all, is a fault, and so is an answer that
@@ -31,6 +41,8 @@ pub struct TcpLink<R: Clock + Eprint + Copy> {
     leaves_alone: bool,
     failing: Failing,
     awaiting: Awaiting,
+    spending: Spending,
+    names: Names,
     faults: u64,
 }
 
@@ -42,6 +54,8 @@ impl<R: Clock + Eprint + Copy> Drop for TcpLink<R> {
             leaves_alone: _,
             mut failing,
             awaiting: _,
+            spending: _,
+            names: _,
             faults: _,
         } = self;
         for destination in failing.destinations() {
@@ -85,6 +99,52 @@ fn note_sent<R: Clock + Eprint + Copy>(log: &Log<R>) {
     }
 }
 
+/// Looks what has come of the answers that are awaited. The host of one that never came was mute at
+/// the moment at which it was given up, however long ago that is.
+fn settle<R: Clock + Eprint + Copy>(
+    log: &Log<R>,
+    alloc: Global,
+    awaiting: &mut Awaiting,
+    failing: &mut Failing,
+) {
+    let now = millis_now(&log.runtime());
+    awaiting.look(now);
+    for one in awaiting.all() {
+        match one.fate() {
+            Fate::Open => {}
+            Fate::Answered => {
+                failing.note_late(one.host_port());
+                note_sent(log);
+            }
+            Fate::Ended => note_failed(log, failing.refuse(alloc, one.host_port())),
+            Fate::Mute => {
+                let at = one.given_up_at(now);
+                note_failed(log, failing.leave_alone(alloc, one.host_port(), at));
+            }
+        }
+    }
+    awaiting.tidy();
+}
+
+/// Waits for so many milliseconds at most until fewer than the most answers of a host are awaited.
+/// Tells whether that came.
+fn has_place_in_time<R: Clock + Eprint + Copy>(
+    log: &Log<R>,
+    alloc: Global,
+    awaiting: &mut Awaiting,
+    failing: &mut Failing,
+    host_port: HostPort,
+) -> bool {
+    for _ in 0..SHORT_PATIENCE / PAUSE {
+        if !awaiting.is_full_at(host_port, failing.has_answered(host_port)) {
+            return true;
+        }
+        log.runtime().sleep(Duration::from_millis(PAUSE));
+        settle(log, alloc, awaiting, failing);
+    }
+    false
+}
+
 impl<R: Clock + Eprint + Copy> TcpLink<R> {
     /// Says what failed and may be said at this moment. What the log doesn't take is said later.
     fn say_faults(&mut self, now: u64)
@@ -102,7 +162,7 @@ impl<R: Clock + Eprint + Copy> TcpLink<R> {
         if self.leaves_alone
             && let Some(figures) = self.log.figures()
         {
-            figures.set_failing(self.failing.destinations().len());
+            figures.set_failing(self.failing.count_failed(now));
         }
     }
 
@@ -131,40 +191,20 @@ impl<R: Clock + Eprint + Copy> TcpLink<R> {
         note_failed(&self.log, self.failing.leave_alone(alloc, host_port, now));
     }
 
-    /// Looks what has come of the answers that are awaited. The host of one that never came was
-    /// mute at the moment at which it was given up, however long ago that is.
+    /// Looks what has come of the answers that are awaited.
     fn settle(&mut self, alloc: Global)
         ensures { self.new.faults ≡ self.old.faults }
     {
-        let now = millis_now(&self.log.runtime());
-        self.awaiting.look(now);
-        for one in self.awaiting.all() {
-            match one.fate() {
-                Fate::Open => {}
-                Fate::Answered => {
-                    self.failing.welcome(one.host_port());
-                    note_sent(&self.log);
-                }
-                Fate::Ended => note_failed(&self.log, self.failing.refuse(alloc, one.host_port())),
-                Fate::Mute => {
-                    let at = one.given_up_at(now);
-                    note_failed(
-                        &self.log,
-                        self.failing.leave_alone(alloc, one.host_port(), at),
-                    );
-                }
-            }
-        }
-        self.awaiting.tidy();
+        settle(&self.log, alloc, &mut self.awaiting, &mut self.failing);
     }
 
     /// A request was sent to a host, and isn't answered yet: its answer is awaited at this
     /// connection, since this moment. Where there is no room for it, it failed; and the host was
     /// mute, unless another answer of it is awaited.
-    fn wait_for(&mut self, alloc: Global, host_port: HostPort, stream: TcpStream, since: u64)
+    fn wait_for(&mut self, alloc: Global, host_port: HostPort, call: Call, since: u64)
         ensures { self.new.faults ≡ self.old.faults }
     {
-        if self.awaiting.keep(alloc, host_port, stream, since) {
+        if self.awaiting.keep(alloc, host_port, call, since) {
             self.settle(alloc);
         } else if self.awaiting.has(host_port) {
             self.count(alloc, host_port);
@@ -173,97 +213,175 @@ impl<R: Clock + Eprint + Copy> TcpLink<R> {
         }
     }
 
-    /// How long an exchange with a host waits.
-    fn pace(&self, host_port: HostPort) -> Pace {
+    /// Whether much time was spent on hosts that were mute or slow, so that they are waited for no
+    /// longer.
+    fn has_spent_much(&self, now: u64) -> bool {
+        !self.is_patient && self.spending.is_much(now)
+    }
+
+    /// How long an exchange with a host waits at this moment.
+    fn pace(&self, host_port: HostPort, now: u64) -> Pace {
         if self.is_patient {
-            Pace::Patient
-        } else if self.awaiting.has(host_port) {
+            return Pace::Patient;
+        }
+        let takes_long = self.failing.takes_long(host_port);
+        if self.awaiting.has(host_port) || (takes_long && self.spending.is_much(now)) {
             Pace::AtOnce
+        } else if takes_long || self.spending.is_too_much(now) {
+            Pace::Brief
         } else {
             Pace::Impatient
         }
     }
 
-    /// Whether a request to a host isn't sent at this moment: the host is left alone, or so much
-    /// is awaited of it that nothing more is asked.
+    /// Whether as many answers of a host are awaited as may be.
+    fn is_full_at(&self, host_port: HostPort) -> bool {
+        self.awaiting
+            .is_full_at(host_port, self.failing.has_answered(host_port))
+    }
+
+    /// A host has begun to answer in an exchange that took so many milliseconds up to this moment,
+    /// and didn't end. That makes no mute host welcome.
+    fn note_part(&mut self, alloc: Global, host_port: HostPort, took: u64, now: u64)
+        ensures { self.new.faults ≡ self.old.faults }
+    {
+        note_sent(&self.log);
+        self.find_slow(alloc, host_port);
+        self.spending.spend(took, now);
+    }
+
+    /// A host has said nothing yet in an exchange that took so many milliseconds up to this moment.
+    fn note_nothing(&mut self, alloc: Global, host_port: HostPort, call: Call, took: u64, now: u64)
+        ensures { self.new.faults ≡ self.old.faults }
+    {
+        if took > SLOW {
+            self.find_slow(alloc, host_port);
+        }
+        self.spending.spend(took, now);
+        self.wait_for(alloc, host_port, call, now.saturating_sub(took));
+    }
+
+    /// Whether a request to a host isn't sent at this moment: the host is left alone, or was mute
+    /// the last time and much time was spent on such hosts, or so much is awaited of it that
+    /// nothing more is asked.
     fn is_passed_over(&self, host_port: HostPort, now: u64) -> bool {
         let is_left_alone = self.leaves_alone && self.failing.is_left_alone(host_port, now);
-        is_left_alone || self.awaiting.is_full_at(host_port)
+        let is_mute = self.failing.is_mute(host_port) && self.has_spent_much(now);
+        is_left_alone || is_mute || self.is_full_at(host_port)
     }
-}
 
-/// Why a host isn't found, where the look-up fails so: it is as good as mute where that took as long
-/// as a connection may.
-fn fault_of_lookup<R: Clock>(rt: &R, error: &io::Error, begun: u64, pace: Pace) -> ExchangeFault {
-    if error.kind() == ErrorKind::OutOfMemory {
-        return ExchangeFault::OutOfMemory;
+    /// Waits until one answer less is awaited of a host, of which there are as many as may be. That
+    /// is for `SHORT_PATIENCE` at most, and only where it is slow and has answered, and not too
+    /// much time was spent.
+    fn await_place(&mut self, alloc: Global, host_port: HostPort)
+        ensures { self.new.faults ≡ self.old.faults }
+    {
+        let begun = millis_now(&self.log.runtime());
+        if self.spending.is_too_much(begun) || !self.failing.has_answered(host_port) {
+            return;
+        }
+        if !has_place_in_time(
+            &self.log,
+            alloc,
+            &mut self.awaiting,
+            &mut self.failing,
+            host_port,
+        ) {
+            let now = millis_now(&self.log.runtime());
+            self.spending.spend(now.saturating_sub(begun), now);
+        }
     }
-    match time_left(rt, begun, pace.of_a_step()) {
-        Some(_) => ExchangeFault::Refused,
-        None => ExchangeFault::Mute,
+
+    /// A host was slow in an exchange.
+    fn find_slow(&mut self, alloc: Global, host_port: HostPort)
+        ensures { self.new.faults ≡ self.old.faults }
+    {
+        if !self.is_patient
+            && let Some(oldest) = self.failing.find_slow(alloc, host_port)
+        {
+            say_unsaid(&self.log, &oldest);
+        }
+    }
+
+    /// A host has answered in an exchange that took so many milliseconds up to this moment.
+    fn note_answer(&mut self, alloc: Global, host_port: HostPort, took: u64, now: u64)
+        ensures { self.new.faults ≡ self.old.faults }
+    {
+        note_sent(&self.log);
+        if took <= SLOW {
+            return self.failing.welcome(host_port);
+        }
+        self.find_slow(alloc, host_port);
+        self.failing.note_late(host_port);
+        self.spending.spend(took, now);
     }
 }
 
 /// One exchange with a host, over a connection of its own.
 fn exchange_at<R>(
-    rt: R,
+    log: &Log<R>,
     alloc: Global,
-    host_port: HostPort,
+    found: &[SocketAddr],
     pace: Pace,
     request: &[u8],
 ) -> Result<SendOutcome, ExchangeFault>
 where
-    R: Net<Listener = TcpListener, Stream = TcpStream> + Clock + Copy,
+    R: Net<Listener = TcpListener, Stream = TcpStream> + Clock + Eprint + Copy,
     ensures { IfOk result HasFew }
 {
-    let asked = millis_now(&rt);
-    let found = match addresses(&rt, alloc, host_port) {
-        Ok(found) => found,
-        Err(error) => return Err(fault_of_lookup(&rt, &error, asked, pace)),
-    };
+    let rt = log.runtime();
     let begun = millis_now(&rt);
-    match connected(&rt, &found, begun, pace.of_a_step()) {
-        Ok(stream) => ExchangeConn::new(rt, alloc, stream, pace, begun).asked(alloc, request),
-        Err(error) => Err(fault_of(&error)),
-    }
+    let call = match connected(log, found, begun, pace.of_connecting()) {
+        Ok(call) => call,
+        Err(error) => return Err(fault_of(&error)),
+    };
+    let begun = if pace == Pace::Brief {
+        millis_now(&rt)
+    } else {
+        begun
+    };
+    ExchangeConn::new(rt, alloc, call, pace, begun).asked(alloc, request)
 }
 
 impl<R> TcpLink<R>
 where
-    R: Net<Listener = TcpListener, Stream = TcpStream> + Clock + Eprint + Copy,
+    R: Net<Listener = TcpListener, Stream = TcpStream> + Clock + Eprint + Threads + Copy,
 {
     /// A link of which no destination has failed yet, and which says on this log what fails.
-    fn made(log: Log<R>, is_patient: bool, leaves_alone: bool) -> Self
+    fn made(log: Log<R>, system: HostRuntime, is_patient: bool, leaves_alone: bool) -> Self
         ensures { result.faults ≡ 0 }
     {
         let failing = Failing::new(log.allocator());
         let awaiting = Awaiting::new(log.allocator());
+        let names = Names::new(system, log.allocator());
         TcpLink {
             log,
             is_patient,
             leaves_alone,
             failing,
             awaiting,
+            spending: Spending::new(),
+            names,
             faults: 0,
         }
     }
 
     /// A link of which no destination has failed yet, and which says on this log what fails. It
-    /// tries each exchange.
-    pub fn new(log: Log<R>) -> Self
+    /// tries each exchange. Names are looked up by this system.
+    pub fn new(log: Log<R>, system: HostRuntime) -> Self
         ensures exchanges { ⟦<TcpLink<R> as Link>⟧.exchanges result ≡ None }
         ensures faults { ⟦<TcpLink<R> as Link>⟧.faults result ≡ 0 }
     {
-        TcpLink::made(log, true, false)
+        TcpLink::made(log, system, true, false)
     }
 
     /// Such a link that leaves a mute destination alone for a while: an exchange with it is a fault
     /// at once.
-    pub fn sparing(log: Log<R>) -> Self
+    pub fn sparing(log: Log<R>, system: HostRuntime) -> Self
         ensures exchanges { ⟦<TcpLink<R> as Link>⟧.exchanges result ≡ None }
         ensures faults { ⟦<TcpLink<R> as Link>⟧.faults result ≡ 0 }
     {
-        TcpLink::made(log, true, true)
+        TcpLink::made(log, system, true, true)
     }
 
     /// A link that leaves a mute destination alone, and waits no longer than `SHORT_PATIENCE` in an
@@ -272,11 +390,30 @@ where
     /// requests go to that destination, and none of them is waited for; behind these it is passed
     /// over. Where it doesn't come within `PATIENCE`, the destination was mute. One that has begun
     /// to answer wasn't.
-    pub fn impatient(log: Log<R>) -> Self
+    pub fn impatient(log: Log<R>, system: HostRuntime) -> Self
         ensures exchanges { ⟦<TcpLink<R> as Link>⟧.exchanges result ≡ None }
         ensures faults { ⟦<TcpLink<R> as Link>⟧.faults result ≡ 0 }
     {
-        TcpLink::made(log, false, true)
+        TcpLink::made(log, system, false, true)
+    }
+
+    /// One exchange with a host at this moment.
+    fn exchange_with(
+        &mut self,
+        alloc: Global,
+        host_port: HostPort,
+        now: u64,
+        request: &[u8],
+    ) -> Result<SendOutcome, ExchangeFault>
+        ensures few { IfOk result HasFew }
+        ensures faults { self.new.faults ≡ self.old.faults }
+    {
+        let pace = self.pace(host_port, now);
+        let rt = self.log.runtime();
+        let found = self
+            .names
+            .addresses(&rt, alloc, host_port, pace.of_a_step())?;
+        exchange_at(&self.log, alloc, &found, pace, request)
     }
 
     /// One exchange with a host, unless that is passed over.
@@ -289,32 +426,38 @@ where
         ensures few { IfOk result (λ answer. length answer.items ≤ MOST_BYTES) }
         ensures faults { self.new.faults ≡ self.old.faults }
     {
+        if self.is_full_at(host_port) {
+            self.await_place(alloc, host_port);
+        }
         let rt = self.log.runtime();
-        let now = millis_now(&rt);
-        if self.is_passed_over(host_port, now) {
+        let since = millis_now(&rt);
+        if self.is_passed_over(host_port, since) {
             self.count(alloc, host_port);
             return Err(LinkFault::Failed);
         }
-        match exchange_at(rt, alloc, host_port, self.pace(host_port), request) {
+        let outcome = self.exchange_with(alloc, host_port, since, request);
+        let now = millis_now(&rt);
+        let took = now.saturating_sub(since);
+        match outcome {
             Ok(SendOutcome::Answer(answer)) => {
-                self.failing.welcome(host_port);
-                note_sent(&self.log);
+                self.note_answer(alloc, host_port, took, now);
                 Ok(answer)
             }
             Ok(SendOutcome::Part) => {
-                self.failing.welcome(host_port);
-                note_sent(&self.log);
+                self.note_part(alloc, host_port, took, now);
                 Err(LinkFault::Failed)
             }
-            Ok(SendOutcome::Nothing(stream)) => {
-                self.wait_for(alloc, host_port, stream, now);
+            Ok(SendOutcome::Nothing(call)) => {
+                self.note_nothing(alloc, host_port, call, took, now);
                 Err(LinkFault::Failed)
             }
             Err(ExchangeFault::Mute) => {
+                self.spending.spend(took, now);
                 self.find_mute(alloc, host_port);
                 Err(LinkFault::Failed)
             }
             Err(ExchangeFault::Refused) => {
+                self.spending.spend(took, now);
                 self.refuse(alloc, host_port);
                 Err(LinkFault::Failed)
             }
@@ -340,7 +483,7 @@ where
 
 impl<R> Link for TcpLink<R>
 where
-    R: Net<Listener = TcpListener, Stream = TcpStream> + Clock + Eprint + Copy,
+    R: Net<Listener = TcpListener, Stream = TcpStream> + Clock + Eprint + Threads + Copy,
 {
     ghost use Rattle.std.specs.Prelude.{None};
 
