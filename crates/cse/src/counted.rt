@@ -27,6 +27,13 @@ impl<R: Clock + Eprint + Copy + Drop> CountedFile<R> {
         }
     }
 
+    /// One sync more is counted.
+    fn count_sync(&self) {
+        if let Some(figures) = self.log.figures() {
+            figures.count_sync();
+        }
+    }
+
     /// The file has so many bytes from now on.
     fn set_length(&mut self, len: usize)
         ensures { self.new.file ≡ self.old.file }
@@ -36,6 +43,16 @@ impl<R: Clock + Eprint + Copy + Drop> CountedFile<R> {
             figures.set_journal(len);
         }
     }
+}
+
+/// What a call of the file did. Where it failed nothing more is kept, and the server ends.
+fn or_shut<R: Clock + Eprint + Copy, T>(log: &Log<R>, done: Result<T, Failed>) -> Result<T, Failed>
+    ensures { result ≡ done }
+{
+    if done.is_err() {
+        log.shut();
+    }
+    done
 }
 
 impl<R: Clock + Eprint + Copy + Drop> KeptFile for CountedFile<R> {
@@ -62,14 +79,14 @@ impl<R: Clock + Eprint + Copy + Drop> KeptFile for CountedFile<R> {
     }
 
     fn write_at(&mut self, at: usize, bytes: &[u8]) -> Result<(), Failed> {
-        self.file.write_at(at, bytes)?;
+        or_shut(&self.log, self.file.write_at(at, bytes))?;
         let end = at.saturating_add(bytes.len());
         self.set_length(self.length.max(end));
         Ok(())
     }
 
     fn cut(&mut self, len: usize) -> Result<(), Failed> {
-        self.file.cut(len)?;
+        or_shut(&self.log, self.file.cut(len))?;
         self.set_length(len);
         Ok(())
     }
@@ -79,17 +96,29 @@ impl<R: Clock + Eprint + Copy + Drop> KeptFile for CountedFile<R> {
     }
 
     fn sync(&mut self) -> Result<(), Failed> {
-        self.file.sync()?;
-        if let Some(figures) = self.log.figures() {
-            figures.count_sync();
-        }
+        or_shut(&self.log, self.file.sync())?;
+        self.count_sync();
         Ok(())
+    }
+
+    fn put_whole(&mut self, at: usize, bytes: &[u8], last: u8) -> Result<bool, Failed> {
+        let is_put = or_shut(&self.log, self.file.put_whole(at, bytes, last))?;
+        if is_put {
+            let end = at.saturating_add(bytes.len()).saturating_add(1);
+            self.set_length(self.length.max(end));
+            self.count_sync();
+        }
+        Ok(is_put)
+    }
+
+    fn is_held(&self) -> bool {
+        self.file.is_held()
     }
 }
 
 impl<R: Clock + Eprint + Copy + Drop> NamedFile for CountedFile<R> {
     fn replace(&mut self, bytes: &[u8]) -> Result<bool, Failed> {
-        let is_replaced = self.file.replace(bytes)?;
+        let is_replaced = or_shut(&self.log, self.file.replace(bytes))?;
         if is_replaced {
             self.set_length(bytes.len());
         }

@@ -7,7 +7,9 @@ use kept_file::KeptFile;
 use m2m_io::{Door, Sink, Status};
 use m2m_value::{Scratch, Val, read_in, write};
 use std::alloc::{AllocError, Global};
-use std::net::TcpListener;
+use std::io::Eprint;
+use std::net::{Net, TcpListener, TcpStream};
+use std::time::Clock;
 use tree_model::Home;
 
 /// The names of a home's members, each with the option that says it.
@@ -21,12 +23,15 @@ const OPTIONS: [(&str, &str); 5] = [
 
 /// Sees to it that no new journal of this name is made for a server that can't listen here. Where
 /// it can't, the door says why.
-pub(crate) fn can_listen_for(
+pub(crate) fn can_listen_for<R>(
     rt: &HostRuntime,
     name: &str,
     listen: &str,
-    door: &mut TcpDoor<HostRuntime>,
-) -> bool {
+    door: &mut TcpDoor<R>,
+) -> bool
+where
+    R: Net<Listener = TcpListener, Stream = TcpStream> + Clock + Eprint + Copy + Send,
+{
     !is_new(rt, name)
         || TcpListener::bind(rt, listen).is_ok()
         || door.open(listen.as_bytes()).is_ok()

@@ -17,7 +17,7 @@ use devices::{Log, LogLevel, StdIn, StdOut, SystemClock, TcpDoor, words};
 use disk_file::{DiskFile, DiskName, NamedDiskFile, OpenFault};
 use journal_opening::first_text;
 use journaled_cli::{CommandStreams, run_journaled, run_snapshot};
-use m2m_io::{Clock as Reads, Sink, Status};
+use m2m_io::{Clock as Reads, Link, Sink, Status};
 use resource_model::Home;
 use std::alloc::{AllocError, Global};
 use std::io::Eprint;
@@ -32,10 +32,12 @@ use tcp_link::TcpLink;
 const MOST_WORKERS: u64 = 4_096;
 
 /// What the devices have to know of a server: how many workers it has, what it logs, and what the
-/// CSE is called. A command that sends what waits does so by the first bench.
+/// CSE is called. A command that sends what waits does so by the first bench. Where connections
+/// aren't counted, idle ones have no worker.
 #[derive(Drop)]
 struct DeviceSettings {
     workers: usize,
+    parks: bool,
     log: LogLevel,
     whom: String,
     sends: bool,
@@ -70,6 +72,7 @@ fn settings_by(alloc: Global, command: &Command<'_>) -> Result<DeviceSettings, A
     let Task::Serve(serving) = command.task else {
         return Ok(DeviceSettings {
             workers: workers_of(1),
+            parks: false,
             log: LogLevel::Nothing,
             whom: String::new(alloc),
             sends: sends(command.task),
@@ -77,6 +80,7 @@ fn settings_by(alloc: Global, command: &Command<'_>) -> Result<DeviceSettings, A
     };
     Ok(DeviceSettings {
         workers: workers_of(serving.workers),
+        parks: serving.accept.is_none(),
         log: level_of(serving.log),
         whom: named_csi(alloc, &command.home)?,
         sends: sends(command.task),
@@ -93,61 +97,91 @@ fn named_csi(alloc: Global, home: &Home) -> Result<String, AllocError> {
 }
 
 /// The system's clock, and a link over TCP that says on this log what fails.
-fn bench<R>(rt: R, log: &Log<R>) -> Result<Bench<SystemClock<R>, TcpLink<R>>, AllocError>
+fn bench<R>(
+    system: HostRuntime,
+    log: &Log<R>,
+) -> Result<Bench<SystemClock<R>, TcpLink<R>>, AllocError>
 where
-    R: Net<Listener = TcpListener, Stream = TcpStream> + Clock + Eprint + Copy + Drop,
+    R: Net<Listener = TcpListener, Stream = TcpStream>
+        + Clock
+        + Eprint
+        + Threads
+        + Copy
+        + Drop
+        + Send,
 {
     Ok(Bench {
-        clock: SystemClock::new(rt),
-        link: TcpLink::new(log.again()?),
+        clock: SystemClock::new(log.runtime()),
+        link: TcpLink::new(log.again()?, system),
     })
 }
 
 /// The bench beside those of workers and sender. Where what waits is sent by it, too, its link
 /// leaves those alone who are mute, so that they hold up little that goes to others.
 fn first_bench<R>(
-    rt: R,
+    system: HostRuntime,
     log: &Log<R>,
     sends: bool,
 ) -> Result<Bench<SystemClock<R>, TcpLink<R>>, AllocError>
 where
-    R: Net<Listener = TcpListener, Stream = TcpStream> + Clock + Eprint + Copy + Drop,
+    R: Net<Listener = TcpListener, Stream = TcpStream>
+        + Clock
+        + Eprint
+        + Threads
+        + Copy
+        + Drop
+        + Send,
 {
     if !sends {
-        return bench(rt, log);
+        return bench(system, log);
     }
     Ok(Bench {
-        clock: SystemClock::new(rt),
-        link: TcpLink::sparing(log.again()?),
+        clock: SystemClock::new(log.runtime()),
+        link: TcpLink::sparing(log.again()?, system),
     })
 }
 
 /// What the sender works with: its link waits little, so that one who doesn't answer holds up
 /// nothing that goes to others. The figures are said by it, as it reads its clock ten times a
 /// second.
-fn sender_bench<R>(log: &Log<R>) -> Result<Bench<SystemClock<R>, TcpLink<R>>, AllocError>
+fn sender_bench<R>(
+    system: HostRuntime,
+    log: &Log<R>,
+) -> Result<Bench<SystemClock<R>, TcpLink<R>>, AllocError>
 where
-    R: Net<Listener = TcpListener, Stream = TcpStream> + Clock + Eprint + Copy + Drop,
+    R: Net<Listener = TcpListener, Stream = TcpStream>
+        + Clock
+        + Eprint
+        + Threads
+        + Copy
+        + Drop
+        + Send,
 {
     Ok(Bench {
         clock: SystemClock::telling(log.again()?),
-        link: TcpLink::impatient(log.again()?),
+        link: TcpLink::impatient(log.again()?, system),
     })
 }
 
 /// A bench for each of so many workers.
 fn worker_benches<R>(
-    rt: R,
+    system: HostRuntime,
     log: &Log<R>,
     count: usize,
 ) -> Result<Vec<Bench<SystemClock<R>, TcpLink<R>>>, AllocError>
 where
-    R: Net<Listener = TcpListener, Stream = TcpStream> + Clock + Eprint + Copy + Drop,
+    R: Net<Listener = TcpListener, Stream = TcpStream>
+        + Clock
+        + Eprint
+        + Threads
+        + Copy
+        + Drop
+        + Send,
     ensures { IfOk result (λ benches. count ≤ vec_len benches) }
 {
     let mut benches = Vec::new(log.allocator());
     while benches.len() < count {
-        benches.push(bench(rt, log)?)?;
+        benches.push(bench(system, log)?)?;
     }
     Ok(benches)
 }
@@ -155,17 +189,23 @@ where
 /// The benches of so many workers, and the sender's, which is also for what is left when they have
 /// ended.
 fn all_benches<R>(
-    rt: R,
+    system: HostRuntime,
     log: &Log<R>,
     workers: usize,
 ) -> Result<Vec<Bench<SystemClock<R>, TcpLink<R>>>, AllocError>
 where
-    R: Net<Listener = TcpListener, Stream = TcpStream> + Clock + Eprint + Copy + Drop,
+    R: Net<Listener = TcpListener, Stream = TcpStream>
+        + Clock
+        + Eprint
+        + Threads
+        + Copy
+        + Drop
+        + Send,
     requires { 1 ≤ workers }
     ensures { IfOk result (λ benches. 2 ≤ vec_len benches) }
 {
-    let mut benches = worker_benches(rt, log, workers)?;
-    benches.push(sender_bench(log)?)?;
+    let mut benches = worker_benches(system, log, workers)?;
+    benches.push(sender_bench(system, log)?)?;
     Ok(benches)
 }
 
@@ -199,9 +239,10 @@ fn journal_of(
 /// The file of this name, and its name; or why not, as a status.
 fn file_there(rt: &HostRuntime, alloc: Global, name: &str) -> Result<(DiskFile, DiskName), Status> {
     match DiskFile::open_there(rt, name) {
-        Ok(file) => match DiskName::new(rt, name) {
+        Ok(file) => match DiskName::new(rt, &file, name) {
             Ok(place) => Ok((file, place)),
-            Err(_) => Err(Status::Memory),
+            Err(OpenFault::OutOfMemory) => Err(Status::Memory),
+            Err(fault) => Err(say_shut(rt, alloc, name, fault)),
         },
         Err(OpenFault::OutOfMemory) => Err(Status::Memory),
         Err(fault) => Err(say_shut(rt, alloc, name, fault)),
@@ -261,30 +302,50 @@ fn say(rt: &HostRuntime, text: &str) -> ExitCode {
 
 /// What a command over no journal or over one works with, beside its streams.
 #[derive(Drop)]
-struct Devices {
-    log: Log<HostRuntime>,
-    first: Bench<SystemClock<HostRuntime>, TcpLink<HostRuntime>>,
-    server: Server<
-        TcpDoor<HostRuntime>,
-        SystemClock<HostRuntime>,
-        TcpLink<HostRuntime>,
-        LaterLog<HostRuntime>,
-    >,
+struct Devices<R>
+where
+    R: Net<Listener = TcpListener, Stream = TcpStream>
+        + Clock
+        + Eprint
+        + Threads
+        + Copy
+        + Drop
+        + Send,
+    SystemClock<R>: Reads,
+    TcpLink<R>: Link,
+{
+    log: Log<R>,
+    first: Bench<SystemClock<R>, TcpLink<R>>,
+    server: Server<TcpDoor<R>, SystemClock<R>, TcpLink<R>, LaterLog<R>>,
 }
 
 /// The devices of a command.
-fn devices_for(
-    rt: HostRuntime,
+fn devices_for<R>(
+    rt: R,
+    system: HostRuntime,
     alloc: Global,
     command: &Command<'_>,
-) -> Result<Devices, AllocError> {
+) -> Result<Devices<R>, AllocError>
+where
+    R: Net<Listener = TcpListener, Stream = TcpStream>
+        + Clock
+        + Eprint
+        + Threads
+        + Copy
+        + Drop
+        + Send,
+{
     let settings = settings_by(alloc, command)?;
-    let log = Log::new(rt, alloc, settings.log)?;
-    let benches = all_benches(rt, &log, settings.workers)?;
-    let first = first_bench(rt, &log, settings.sends)?;
+    let log = Log::new(rt, alloc, settings.log, command.home.copy(alloc)?)?;
+    let benches = all_benches(system, &log, settings.workers)?;
+    let first = first_bench(system, &log, settings.sends)?;
     let own = log.again()?;
     let observer = LaterLog::new(log.again()?);
-    let door = TcpDoor::new(log, settings.whom);
+    let door = if settings.parks {
+        TcpDoor::parking(log, settings.whom)
+    } else {
+        TcpDoor::new(log, settings.whom)
+    };
     Ok(Devices {
         log: own,
         first,
@@ -299,9 +360,17 @@ fn devices_for(
 /// Does a command over an entity that is kept nowhere.
 fn run_alone<R>(handle: &R, rt: HostRuntime, alloc: Global, command: Command<'_>) -> ExitCode
 where
-    R: Wait + Threads + Clock + Clone + Drop + Sync,
+    R: Net<Listener = TcpListener, Stream = TcpStream>
+        + Wait
+        + Threads
+        + Clock
+        + Eprint
+        + Copy
+        + Drop
+        + Send
+        + Sync,
 {
-    let Ok(devices) = devices_for(rt, alloc, &command) else {
+    let Ok(devices) = devices_for(*handle, rt, alloc, &command) else {
         return ended(&rt, Status::Memory);
     };
     let Devices {
@@ -330,9 +399,17 @@ fn run_over<R>(
     command: Command<'_>,
 ) -> ExitCode
 where
-    R: Wait + Threads + Clock + Clone + Drop + Sync,
+    R: Net<Listener = TcpListener, Stream = TcpStream>
+        + Wait
+        + Threads
+        + Clock
+        + Eprint
+        + Copy
+        + Drop
+        + Send
+        + Sync,
 {
-    let Ok(devices) = devices_for(rt, alloc, &command) else {
+    let Ok(devices) = devices_for(*handle, rt, alloc, &command) else {
         return ended(&rt, Status::Memory);
     };
     let Devices {
@@ -367,7 +444,15 @@ where
 /// threads.
 fn do_asked<R>(handle: &R, rt: HostRuntime, alloc: Global, asked: Asked<'_>) -> ExitCode
 where
-    R: Wait + Threads + Clock + Clone + Drop + Sync,
+    R: Net<Listener = TcpListener, Stream = TcpStream>
+        + Wait
+        + Threads
+        + Clock
+        + Eprint
+        + Copy
+        + Drop
+        + Send
+        + Sync,
 {
     match asked {
         Asked::Run(command) => run_alone(handle, rt, alloc, command),
