@@ -1,7 +1,7 @@
 //! What the program says of itself.
 
 /// The version of the program.
-pub const VERSION: &str = "0.18";
+pub const VERSION: &str = "0.19";
 
 /// What the commands and their options are.
 pub const HELP: &str = "\
